@@ -29,7 +29,7 @@ FLAT = {"*mut u8": "void *", "*const u8": "const uint8_t *"}
 # The struct of the header for each type that a handle of the library can hold. Each has its own call to free it.
 KINDS = [
     "cpay_packetizer", "cpay_buffer", "cpay_depacketizer", "cpay_red_sender", "cpay_sender", "cpay_history", "cpay_forwarder",
-    "cpay_receiver", "cpay_adaptive_wait", "cpay_transport_reporter", "cpay_sent_packets", "cpay_session",
+    "cpay_receiver", "cpay_adaptive_wait", "cpay_freezes", "cpay_transport_reporter", "cpay_sent_packets", "cpay_session",
 ]
 # The enums of the header.
 ENUMS = set()

@@ -58,12 +58,6 @@ static bool should_ask(keyframe_filter *it, uint64_t now) {
     return true;
 }
 
-/* A picture loss indication: 12 bytes. */
-static void put_pli(uint8_t packet[12], uint32_t own_ssrc, uint32_t media_ssrc) {
-    const uint32_t words[3] = {0x81ce0002, own_ssrc, media_ssrc}; /* version 2, format 1, payload-specific feedback (206) */
-    for (int i = 0; i < 12; i++) packet[i] = (uint8_t)(words[i / 4] >> (24 - 8 * (i % 4)));
-}
-
 /* ---- The simulated sender: each frame ends with its number, so that the test sees whether the frame before it was decoded ---- */
 
 static void put_vp8(uint8_t *frame, bool keyframe, uint32_t number) {
@@ -127,7 +121,7 @@ int main(void) {
         }
         if (should_ask(&filter, now)) {
             uint8_t pli[12];
-            put_pli(pli, 8, 7);
+            check(cpay_write_pli(8, 7, pli, sizeof pli, &size), "PLI"); /* send these bytes */
             requests++;
             if (!pending) {
                 pending = true;

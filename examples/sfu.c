@@ -31,8 +31,6 @@ static void put(uint8_t *at, uint32_t value, int bytes) {
     for (int i = 0; i < bytes; i++) at[i] = (uint8_t)(value >> 8 * (bytes - 1 - i));
 }
 
-static uint16_t number_of(const uint8_t *packet) { return (uint16_t)(packet[2] << 8 | packet[3]); }
-
 /* ---- One direction of a hop of the network ---- */
 
 typedef struct {
@@ -91,26 +89,26 @@ static bool forward(sfu *it, uint64_t now, const uint8_t *packet, size_t size) {
     return did == CPAY_FORWARDED_BEGAN;
 }
 
-/* A datagram of the publisher. The SSRCs of its layers are those of the session description. */
+/* A datagram of the publisher. The session says which of its streams received it; the streams are the layers. */
 static void receive(sfu *it, uint64_t now, const uint8_t *datagram, size_t size) {
     uint8_t bytes[ROOM];
-    static cpay_arrival arrival;
+    static cpay_arrival to;
     cpay_rtp_info packet = {0};
     cpay_kept_once seen = CPAY_KEPT_KNOWN;
     cpay_resent found = CPAY_RESENT_NOT_KEPT;
-    check(cpay_session_receive(&it->session, now, datagram, size, &arrival), "receive");
-    if (cpay_is_rtcp(datagram, size) || cpay_rtp_read(datagram, size, &packet)) return;
-    uint32_t ssrc = packet.ssrc % RTX_SSRC;
-    bool repeats = packet.payload_type == RTX;
-    if (ssrc < 1 || ssrc > LAYERS) return;
-    if (repeats && cpay_rtx_original(ssrc, VP8, datagram, size, bytes, ROOM, &size)) return; /* padding alone: a probe */
-    const uint8_t *it_is = repeats ? bytes : datagram;
-    cpay_history *store = &it->stores[ssrc - 1];
-    check(cpay_history_keep_once(store, it_is, size, &seen), "keep");
-    const uint16_t first = number_of(it_is);
-    if (seen != CPAY_KEPT_NEW || !forward(it, now, it_is, size)) return;
+    check(cpay_session_receive(&it->session, now, datagram, size, &to), "receive");
+    if (to.kind != CPAY_ARRIVAL_STREAM || to.status) return; /* RTCP, not of a layer, or padding alone: a probe */
+    check(cpay_rtp_read(datagram, size, &packet), "read");
+    if (packet.ssrc != to.ssrc) { /* a retransmission: the packet that it repeats */
+        check(cpay_rtx_original(to.ssrc, to.payload_type, datagram, size, bytes, ROOM, &size), "unwrap");
+        datagram = bytes;
+        check(cpay_rtp_read(datagram, size, &packet), "read");
+    }
+    cpay_history *store = &it->stores[to.ssrc - 1];
+    check(cpay_history_keep_once(store, datagram, size, &seen), "keep");
+    if (seen != CPAY_KEPT_NEW || !forward(it, now, datagram, size)) return;
     for (uint16_t step = 1; step < 64; step++) { /* packets of the keyframe that came before its first one */
-        check(cpay_history_resend(store, 0, (uint16_t)(first + step), bytes, ROOM, &size, &found), "find");
+        check(cpay_history_resend(store, 0, (uint16_t)(packet.sequence_number + step), bytes, ROOM, &size, &found), "find");
         if (found == CPAY_RESENT_WRITTEN) (void)forward(it, now, bytes, size);
     }
 }
@@ -189,28 +187,19 @@ static void resend(layer *it, uint32_t ssrc, uint64_t now, const uint8_t *rtcp, 
 /* ---- The simulated viewer ---- */
 
 typedef struct {
-    unsigned shown, freezes, switches;
-    uint64_t frozen, before; /* ms; when the frame before was shown */
-    uint64_t intervals[30];  /* between the latest frames */
-    uint8_t latest[5];       /* the time and the layer of the frame before */
+    unsigned shown, switches;
+    cpay_freezes freezes;
+    uint8_t latest[5]; /* the time and the layer of the frame before */
 } picture;
 
-/* Counts a frame. Two layers may have one of the same time, which counts once. A freeze is an interval of at least three average
- * ones, and of 150 ms more than one (W3C's freezeCount). */
+/* Counts a frame. Two layers may have one of the same time, which counts once. */
 static void show(picture *it, uint64_t now, const uint8_t *end) {
-    uint64_t sum = 0, interval = now - it->before, average;
     bool again = it->shown > 0 && !memcmp(end, it->latest, 4);
     it->switches += it->shown > 0 && it->latest[4] != end[4];
     memcpy(it->latest, end, sizeof it->latest);
     if (again) return;
-    for (unsigned i = 0; i < 30; i++) sum += it->intervals[i];
-    average = it->shown > 30 ? sum / 30 : INTERVAL;
-    if (it->shown > 0 && interval >= 3 * average && interval >= average + 150) {
-        it->freezes++;
-        it->frozen += interval;
-    }
-    it->intervals[it->shown++ % 30] = interval;
-    it->before = now;
+    it->shown++;
+    check(cpay_freezes_shown(&it->freezes, now), "show");
 }
 
 static void watch(cpay_session *viewer, picture *it, uint64_t now) {
@@ -285,7 +274,9 @@ static bool run(unsigned loss) {
     layer layers[LAYERS] = {{CPAY_INIT, CPAY_INIT, true}, {CPAY_INIT, CPAY_INIT, true}};
     sfu it = {CPAY_INIT, {CPAY_INIT, CPAY_INIT}, CPAY_INIT};
     cpay_session viewer = CPAY_INIT;
-    picture seen = {0};
+    picture seen = {.freezes = CPAY_INIT};
+    cpay_freeze_counts_info counts = {0};
+    check(cpay_freezes_new(&seen.freezes, 1000), "freezes");
     for (unsigned i = 0; i < 4; i++) {
         memset(ways[i], 0, sizeof *ways[i]);
         ways[i]->chance = i + 1;
@@ -295,8 +286,9 @@ static bool run(unsigned loss) {
     begin_sfu(&it);
     begin_session(&viewer, VIEWER + 1, &pair, 1);
     for (uint64_t now = 0; now < FRAMES * INTERVAL + 1000; now++) step(layers, &it, &viewer, &seen, now);
+    check(cpay_freezes_counts(&seen.freezes, &counts), "counts");
     printf("%u %%: %u of %d frames shown, %u switches, %u freezes, %u ms frozen\n", loss, seen.shown, FRAMES, seen.switches,
-           seen.freezes, (unsigned)seen.frozen);
+           (unsigned)counts.freezes, (unsigned)counts.frozen);
     for (int i = 0; i < LAYERS; i++) {
         cpay_sender_free(&layers[i].sender);
         cpay_history_free(&layers[i].sent);
@@ -305,8 +297,9 @@ static bool run(unsigned loss) {
     cpay_session_free(&it.session);
     cpay_session_free(&viewer);
     cpay_forwarder_free(&it.viewer);
+    cpay_freezes_free(&seen.freezes);
     /* a ring of packets by hand shows 220 of 232 frames at 5 %, and is frozen for 1602 ms */
-    return seen.switches >= 3 && seen.shown * 232 >= 220 * FRAMES && seen.frozen <= (loss ? 1602 : 0);
+    return seen.switches >= 3 && seen.shown * 232 >= 220 * FRAMES && counts.frozen <= (loss ? 1602 : 0);
 }
 
 int main(void) { return run(0) && run(2) && run(5) ? EXIT_SUCCESS : EXIT_FAILURE; }

@@ -26,11 +26,11 @@
  * STATUSES. A call returns a status; a few return a bool or a number. 0 is success, 1 to 17 are errors of payloads and of
  * memory, 32 to 41 are the library's own, 42 to 65 say why a datagram is not accepted, 66 to 73 why feedback is not read, and
  * 74 and 75 why a datagram gets no number; 76 is a unit above the bound. The enum below names them. If a call fails, its output
- * buffer and its other output arguments are unchanged. Exception: with CPAY_TOO_SMALL it writes the required size, and the other outputs except the bytes,
- * unless its comment says otherwise.
+ * buffer and its other output arguments are unchanged. Exception: with CPAY_TOO_SMALL it writes the required size, and the other
+ * outputs except the bytes, unless its comment says otherwise.
  *
  * HANDLES. A packetizer, a depacketizer, a buffer, a RED sender, a sender, a history, a forwarder, a receiver, an adaptive
- * wait, a transport reporter, the sent packets of a transport and a session each live in a handle: a struct of that type in your own
+ * wait, a counter of freezes, a transport reporter, the sent packets of a transport and a session each live in a handle: a struct of that type in your own
  * memory. Initialise it with CPAY_INIT, create the object by the call named *_new, and end with the call named *_free, which
  * leaves the handle empty. You may free an empty handle. Other calls on an empty handle return CPAY_EMPTY; calls on a handle
  * of another type, as after a cast, return CPAY_OTHER_KIND. Never write into a handle. Never copy a handle in use: the
@@ -260,6 +260,10 @@ typedef struct {
 
 typedef struct {
     cpay_handle handle;
+} cpay_freezes;
+
+typedef struct {
+    cpay_handle handle;
 } cpay_transport_reporter;
 
 typedef struct {
@@ -282,6 +286,7 @@ void cpay_history_free(cpay_history *history);
 void cpay_forwarder_free(cpay_forwarder *forwarder);
 void cpay_receiver_free(cpay_receiver *receiver);
 void cpay_adaptive_wait_free(cpay_adaptive_wait *wait);
+void cpay_freezes_free(cpay_freezes *freezes);
 void cpay_transport_reporter_free(cpay_transport_reporter *reporter);
 void cpay_sent_packets_free(cpay_sent_packets *packets);
 void cpay_session_free(cpay_session *session);
@@ -441,7 +446,8 @@ typedef struct {
 
 /** A unit: a video frame, for AV1 a temporal unit, or for audio the media of one packet. */
 typedef struct {
-    uint64_t first;         /**< extended sequence number of its first packet */
+    uint64_t first;         /**< extended sequence number of its first packet. Of a receiver or a session: the first packet of a
+                                 stream has 65,536 plus the 16 bits of its header */
     uint64_t last;          /**< extended sequence number of its last packet */
     uint64_t rtp_time;      /**< RTP time of its packets. Of a cpay_buffer: as pushed. Of a receiver or a session: without wrapping;
                                  the first unit of a stream has 4,294,967,296 plus the 32 bits of its packets */
@@ -651,19 +657,19 @@ typedef enum {
 } cpay_kept_once;
 
 /** Keeps a copy of a datagram as cpay_history_keep does, unless the history has a packet with its number. *kept is what the call did.
- * It is the call of a server, which keeps what arrived once for all viewers of a stream, and forwards each packet once: make one history
- * for each source, with `interval` 0 and without has_rtx. The packet that was forwarded is then the one that is resent. Numbers may
- * come in any order, and may be missing. Pass a retransmission as cpay_rtx_original writes it. CPAY_RTP_HEADER_TOO_SHORT to
- * CPAY_RTP_PADDING_TOO_LONG: not an RTP packet. If the call fails, the history and *kept are unchanged. [m] */
+ * It is the call of a server, which keeps what arrived once for all viewers of a stream, and forwards each packet once. Make one
+ * history for each source, with `interval` 0 and without has_rtx. The packet that was forwarded is then the one that is resent.
+ * Numbers may come in any order, and may be missing. Pass a retransmission as cpay_rtx_original writes it. CPAY_RTP_HEADER_TOO_SHORT
+ * to CPAY_RTP_PADDING_TOO_LONG: not an RTP packet. If the call fails, the history and *kept are unchanged. [m] */
 CPAY_CHECKED cpay_status cpay_history_keep_once(cpay_history *history, const uint8_t *datagram, size_t datagram_len,
                                                 cpay_kept_once *kept);
 
 /** Writes the packet that a retransmission repeats (RFC 4588, section 4), and its size to *size. It has the SSRC and the payload type
- * that you name, 0 to 127, those of the stream; its number is that in front of the payload of the retransmission, the payload is the rest,
- * and padding is left out. All other fields are those of the retransmission. The size is 2 bytes less than that of the retransmission
- * without its padding. CPAY_TOO_SMALL: *size is written. CPAY_RTP_HEADER_TOO_SHORT to CPAY_RTP_PADDING_TOO_LONG: not an RTP packet.
- * CPAY_RTX_TOO_SHORT: its payload has fewer than 2 bytes, as that of padding that probes the bandwidth. CPAY_INVALID: `payload_type`
- * above 127. [m] */
+ * of the stream, which you name; the type is 0 to 127. Its number is in front of the payload of the retransmission, the payload is
+ * the rest, and padding is left out. All other fields are those of the retransmission. The size is 2 bytes less than that of the
+ * retransmission without its padding. CPAY_TOO_SMALL: *size is written. CPAY_RTP_HEADER_TOO_SHORT to CPAY_RTP_PADDING_TOO_LONG: not
+ * an RTP packet. CPAY_RTX_TOO_SHORT: its payload has fewer than 2 bytes, as that of padding that probes the bandwidth. CPAY_INVALID:
+ * `payload_type` above 127. [m] */
 CPAY_CHECKED cpay_status cpay_rtx_original(uint32_t ssrc, uint8_t payload_type, const uint8_t *datagram, size_t datagram_len,
                                            uint8_t *bytes, size_t bytes_len, size_t *size);
 
@@ -674,13 +680,13 @@ typedef enum {
     CPAY_RESENT_TOO_SOON = 2  /**< the packet was resent less than `interval` ago */
 } cpay_resent;
 
-/** Resends the packet with that number at time `now`, in ticks of your clock: writes the datagram to the output buffer, its size to
- * *size, and what was done to *resent: CPAY_RESENT_WRITTEN and so on. With has_rtx the datagram has the SSRC, the payload type
- * and the next number of the retransmissions, the original number is in front of its payload, and padding is left out (RFC 4588,
- * section 4). Otherwise it is the packet as it was. Unless the packet is written, *size is 0, and the output buffer is unchanged.
- * CPAY_TOO_SMALL: the datagram needs *size bytes. Nothing else has changed, *resent too: the number of the retransmission is not
- * used, and the packet does not count as resent. So a first call may pass a length of 0, and you may also leave it at that.
- * If the call fails, the history is unchanged. It allocates only if a datagram is larger than all resent before it. [m] */
+/** Resends the packet with that number at time `now`, in ticks of your clock: writes the datagram to the output buffer, and its size
+ * to *size. *resent is what was done: CPAY_RESENT_WRITTEN and so on. With has_rtx the datagram has the SSRC, the payload type and the
+ * next number of the retransmissions. The original number is in front of its payload, and padding is left out (RFC 4588, section 4).
+ * Otherwise it is the packet as it was. Unless the packet is written, *size is 0, and the output buffer is unchanged. CPAY_TOO_SMALL:
+ * the datagram needs *size bytes. Nothing else has changed, *resent too: the number of the retransmission is not used, and the packet
+ * does not count as resent. So a first call may pass a length of 0, and you may also leave it at that. If the call fails, the history
+ * is unchanged. It allocates only if a datagram is larger than all resent before it. [m] */
 CPAY_CHECKED cpay_status cpay_history_resend(cpay_history *history, uint64_t now, uint16_t number, uint8_t *bytes,
                                              size_t bytes_len, size_t *size, cpay_resent *resent);
 
@@ -720,7 +726,7 @@ CPAY_CHECKED cpay_status cpay_forwarder_new(cpay_forwarder *forwarder, const cpa
  * source before is forwarded. Does not allocate. */
 CPAY_CHECKED cpay_status cpay_forwarder_want(cpay_forwarder *forwarder, uint32_t ssrc);
 
-/** Forwards nothing until a source is wanted again. Then the viewer's stream goes on with a keyframe, also of the same source. So
+/** Forwards nothing until you want a source again. Then the viewer's stream goes on with a keyframe, also of the same source. So
  * call this, and then cpay_forwarder_want, if a sender has restarted under its SSRC. Does not allocate. */
 CPAY_CHECKED cpay_status cpay_forwarder_mute(cpay_forwarder *forwarder);
 
@@ -745,43 +751,44 @@ typedef enum {
                                           viewer requests the number */
 } cpay_forwarded;
 
-/** Writes a packet that arrived, of any source, as the viewer's stream has it, its size to *size, and what was done to *forwarded. Call
- * it before SRTP encrypts the packet. With CPAY_FORWARDED_BEGAN and CPAY_FORWARDED_WRITTEN the packet is in the output buffer: it has the
- * viewer's SSRC and payload type, a number and a time of the viewer's stream, and marker, payload and padding of the packet that
- * arrived; CSRCs and header extensions are left out, and in VP8 and VP9 PictureID and TL0PICIDX are those of the viewer's stream, in
- * the widths that arrived. With any other answer *size is 0, and the output buffer is unchanged. `now` is the time of your clock in ticks of the RTP clock: at a switch the time
- * goes on by the ticks since the packet with the highest number was written, at least 1, at most 2^31 - 1. A viewer begins with:
+/** Writes a packet that arrived, of any source, as the viewer's stream has it, its size to *size, and what was done to *forwarded.
+ * Call it before SRTP encrypts the packet. With CPAY_FORWARDED_BEGAN and CPAY_FORWARDED_WRITTEN the packet is in the output buffer.
+ * It has the viewer's SSRC and payload type, a number and a time of the viewer's stream, and marker, payload and padding of the
+ * packet that arrived. CSRCs and header extensions are left out. In VP8 and VP9 PictureID and TL0PICIDX are those of the viewer's
+ * stream, in the widths that arrived. With any other answer *size is 0, and the output buffer is unchanged. `now` is the time of your
+ * clock in ticks of the RTP clock. At a switch the time goes on by the ticks since the packet with the highest number was written, at
+ * least 1, at most 2^31 - 1. A viewer begins with:
  * - CPAY_VP8: the first packet of a keyframe (RFC 7741, section 4.2);
- * - CPAY_VP9: the first packet of the lowest spatial layer of a picture that refers to no other: P is clear, B is set, and L is
- *   clear or SID is 0 (RFC 9628, section 4.2);
+ * - CPAY_VP9: the first packet of the lowest spatial layer of a picture that refers to no other: P is clear, B is set, and L is clear
+ *   or SID is 0 (RFC 9628, section 4.2);
  * - CPAY_AV1: the first packet of a coded video sequence: N is set, and Z is clear;
  * - other codecs: any packet.
  * CPAY_TOO_SMALL: the output buffer has fewer than *size bytes: 12, the payload and the padding. So a buffer of `datagram_len` bytes
  * is always enough. The call is refused whatever the answer would be, and nothing else has changed: call it again.
- * CPAY_RTP_HEADER_TOO_SHORT to CPAY_RTP_PADDING_TOO_LONG: not an RTP packet. If the call fails, the forwarder is unchanged. It allocates
- * only if a packet is larger than all before it. [m] */
+ * CPAY_RTP_HEADER_TOO_SHORT to CPAY_RTP_PADDING_TOO_LONG: not an RTP packet. If the call fails, the forwarder is unchanged. It
+ * allocates only if a packet is larger than all before it. [m] */
 CPAY_CHECKED cpay_status cpay_forwarder_write(cpay_forwarder *forwarder, uint64_t now, const uint8_t *datagram, size_t datagram_len,
                                               uint8_t *bytes, size_t bytes_len, size_t *size, cpay_forwarded *forwarded);
 
 /** Leaves a packet out that the viewer is not to get, such as one of a temporal layer that it does not want: call it instead of
- * cpay_forwarder_write. A packet above all others takes no number, so the viewer does not miss it: CPAY_FORWARDED_LEFT_OUT. For a packet
- * that comes late a packet of padding, 13 bytes, is written under its number: CPAY_FORWARDED_FILLED. With any other answer *size is 0,
- * and the output buffer is unchanged. Before the source has begun the answer is CPAY_FORWARDED_OTHER_SOURCE. CPAY_TOO_SMALL: the output
- * buffer has fewer than 13 bytes, which *size says; nothing else has changed. In VP8 PictureIDs close up behind each picture that is
- * left out: leave out all packets of a picture, or none. PictureIDs of VP9 keep their gaps. The last 4096 packets and, in VP8, pictures that were left out are
- * remembered, 8 bytes each. CPAY_RTP_HEADER_TOO_SHORT to CPAY_RTP_PADDING_TOO_LONG: not an RTP packet. If the call fails, the forwarder
- * is unchanged. [m] */
+ * cpay_forwarder_write. A packet above all others takes no number, so the viewer does not miss it: CPAY_FORWARDED_LEFT_OUT. For a
+ * packet that comes late a packet of padding, 13 bytes, is written under its number: CPAY_FORWARDED_FILLED. With any other answer
+ * *size is 0, and the output buffer is unchanged. Before the source has begun the answer is CPAY_FORWARDED_OTHER_SOURCE.
+ * CPAY_TOO_SMALL: the output buffer has fewer than 13 bytes, which *size says; nothing else has changed. In VP8 PictureIDs close up
+ * behind each picture that is left out: leave out all packets of a picture, or none. PictureIDs of VP9 keep their gaps. The last 4096
+ * packets and, in VP8, pictures that were left out are remembered, 8 bytes each. CPAY_RTP_HEADER_TOO_SHORT to
+ * CPAY_RTP_PADDING_TOO_LONG: not an RTP packet. If the call fails, the forwarder is unchanged. [m] */
 CPAY_CHECKED cpay_status cpay_forwarder_leave_out(cpay_forwarder *forwarder, const uint8_t *datagram, size_t datagram_len,
                                                   uint8_t *bytes, size_t bytes_len, size_t *size, cpay_forwarded *forwarded);
 
 /** Answers the viewer's request for a number (cpay_read_requests with the viewer's SSRC) from the store of the source that is
- * forwarded: a history that has what arrived as it was (without has_rtx). *resent is CPAY_RESENT_WRITTEN: the packet is in the output
- * buffer as it was sent under this number, or with has_rtx as a retransmission (RFC 4588, section 4), and *size is its size. Or it is
- * CPAY_RESENT_NOT_KEPT: no packet was sent under this number, it is too old, or the store does not have it; then *size is 0, and the
- * output buffer is unchanged. Never CPAY_RESENT_TOO_SOON: limit yourself how often a number is resent, for example once in a round
- * trip. The history does not change. CPAY_TOO_SMALL: the packet needs *size bytes; nothing else has changed. If the call
- * fails, the forwarder is unchanged. CPAY_EMPTY and CPAY_OTHER_KIND apply to the history too. It allocates only if a packet is larger than
- * all before it. [m] */
+ * forwarded. The store is a history that has what arrived as it was (without has_rtx). *resent is CPAY_RESENT_WRITTEN: the packet is
+ * in the output buffer as it was sent under this number, or with has_rtx as a retransmission (RFC 4588, section 4), and *size is its
+ * size. Or it is CPAY_RESENT_NOT_KEPT: no packet was sent under this number, it is too old, or the store does not have it. Then *size
+ * is 0, and the output buffer is unchanged. Never CPAY_RESENT_TOO_SOON: limit yourself how often a number is resent, for example once
+ * in a round trip. The history does not change. CPAY_TOO_SMALL: the packet needs *size bytes; nothing else has changed. If the call
+ * fails, the forwarder is unchanged. CPAY_EMPTY and CPAY_OTHER_KIND apply to the history too. It allocates only if a packet is larger
+ * than all before it. [m] */
 CPAY_CHECKED cpay_status cpay_forwarder_resend(cpay_forwarder *forwarder, cpay_history *history, uint16_t number, uint8_t *bytes,
                                                size_t bytes_len, size_t *size, cpay_resent *resent);
 
@@ -800,9 +807,9 @@ typedef struct {
 /** Reports the counts. Does not allocate. */
 CPAY_CHECKED cpay_status cpay_forwarder_counts(cpay_forwarder *forwarder, cpay_forwarder_counts_info *counts);
 
-/** Reports the fields of a sender report for the viewer's stream (RFC 3550, section 6.4.1), except its NTP time: that of the source's
- * sender report, whose SSRC and RTP time you pass (cpay_session_sender_clock). So audio and video stay together. Packets and octets are
- * the counts, modulo 2^32. CPAY_NONE: this source is not forwarded. Does not allocate. */
+/** Reports the fields of a sender report for the viewer's stream (RFC 3550, section 6.4.1), except its NTP time. Take that of the
+ * source's sender report, whose SSRC and RTP time you pass (cpay_session_sender_clock). So audio and video stay together. Packets and
+ * octets are the counts, modulo 2^32. CPAY_NONE: this source is not forwarded. Does not allocate. */
 CPAY_CHECKED cpay_status cpay_forwarder_report(cpay_forwarder *forwarder, uint32_t ssrc, uint32_t rtp_time,
                                                cpay_sender_report_info *report);
 
@@ -814,8 +821,9 @@ CPAY_CHECKED cpay_status cpay_forwarder_report(cpay_forwarder *forwarder, uint32
 /** For a receiver or a session: a unit may have any number of bytes. */
 #define CPAY_NO_MAX_UNIT SIZE_MAX
 
-/** What a receiver of video does with units that a decoder cannot show. A decoder can show a keyframe; a unit of VP8 with PictureID and
- * TL0PICIDX if it can show all to which that may refer (RFC 7741, section 4.2); any other contiguous unit after one that it can show. A unit is a keyframe by its frame header. Audio and custom codecs are never inspected. */
+/** What a receiver of video does with units that a decoder cannot show. A decoder can show a keyframe. It can show a unit of VP8 with
+ * PictureID and TL0PICIDX if it can show all to which that unit may refer (RFC 7741, section 4.2). It can show any other contiguous
+ * unit after one that it can show. A unit is a keyframe by its frame header. Audio and custom codecs are never inspected. */
 enum {
     CPAY_KEYFRAME_OFF = 0,  /**< units are not inspected: `decodable` is true, `keyframe` is false */
     CPAY_KEYFRAME_MARK = 1, /**< each unit is released, and `decodable` says whether a decoder can show it; all initialisers set
@@ -870,10 +878,10 @@ typedef struct {
 } cpay_receiver_settings;
 
 /** Sets how a receiver of this codec, clock rate and payload type begins, for a purpose (CPAY_FOR_LIVE and so on). Then change what
- * differs. The limit is 4096 packets, a unit has at most 1048576 bytes, your clock has ticks of milliseconds, no frame is released by count alone
- * (CPAY_NO_HOLD_BACK), units of video are marked (CPAY_KEYFRAME_MARK), and RED, retransmissions and header extensions are off. The
- * windows of audio are 3000 numbers ahead (MAX_DROPOUT of RFC 3550, appendix A.1) and 1000 behind. The windows of VP8, VP9 and AV1,
- * and of files, are 12000 and 5000: 12 s and 5 s of 1000 packets per second. Does not allocate. */
+ * differs. The limit is 4096 packets, a unit has at most 1048576 bytes, and your clock has ticks of milliseconds. No frame is
+ * released by count alone (CPAY_NO_HOLD_BACK), and units of video are marked (CPAY_KEYFRAME_MARK). RED, retransmissions and header
+ * extensions are off. The windows of audio are 3000 numbers ahead (MAX_DROPOUT of RFC 3550, appendix A.1) and 1000 behind. The
+ * windows of VP8, VP9 and AV1, and of files, are 12000 and 5000: 12 s and 5 s of 1000 packets per second. Does not allocate. */
 void cpay_receiver_settings_init(cpay_receiver_settings *settings, cpay_codec codec, uint32_t rate, uint8_t payload_type,
                                  cpay_purpose purpose);
 
@@ -941,11 +949,14 @@ CPAY_CHECKED cpay_status cpay_receiver_pop(cpay_receiver *receiver, uint64_t now
  * returned yet. Does not allocate. */
 CPAY_CHECKED cpay_status cpay_receiver_values(cpay_receiver *receiver, cpay_extension_values *values);
 
-/** Reports whether to request a keyframe (by PLI, RFC 4585, section 6.3.1, or FIR, RFC 5104, section 4.3.1). True from one of
- * these events until a pop returns a keyframe: a pop found a unit that a decoder cannot show (but for one of VP8 above the base layer
- * whose base unit it can show, and a unit of that base layer that it can show ends it too); a pop gave a refused frame or a unit
- * above `max_unit`; a pop returned CPAY_NONE and discarded complete frames, as after a backward jump of picture ids; you called
- * cpay_receiver_restart. False for audio, and with CPAY_KEYFRAME_OFF. Does not allocate. */
+/** Reports whether to request a keyframe (by PLI, RFC 4585, section 6.3.1, or FIR, RFC 5104, section 4.3.1). True from one of these
+ * events until a pop returns a keyframe:
+ * - a pop found a unit that a decoder cannot show;
+ * - a pop gave a refused frame or a unit above `max_unit`;
+ * - a pop returned CPAY_NONE and discarded complete frames, as after a backward jump of picture ids;
+ * - you called cpay_receiver_restart.
+ * A unit of VP8 above the base layer is not such a unit, if a decoder can show its base unit. A unit of that
+ * base layer that a decoder can show ends the need too. False for audio, and with CPAY_KEYFRAME_OFF. Does not allocate. */
 CPAY_CHECKED cpay_status cpay_receiver_wants_keyframe(cpay_receiver *receiver, bool *wants);
 
 /** Reports the time at which a pop may return a unit although no datagram arrives: 0 while a unit waits that did not fit
@@ -1068,6 +1079,27 @@ CPAY_CHECKED cpay_status cpay_adaptive_wait_missing(cpay_adaptive_wait *wait, ui
  * allocate. */
 CPAY_CHECKED cpay_status cpay_adaptive_wait_limit(cpay_adaptive_wait *wait, uint64_t *limit);
 
+/* ---- Freezes: how often and how long a viewer saw a picture stand still ---- */
+
+/** Creates a counter of the freezes of a video in an empty handle (W3C, webrtc-stats, `freezeCount` and `totalFreezesDuration`), for a
+ * clock with `tick_rate` ticks per second. The duration of a frame is the time until the next one is shown. It is a freeze if it is at
+ * least three times the average, and at least 150 ms above the average. The average is over the durations of the last 30 frames, with the
+ * one that is judged; of the first frames, over those that there are. It takes about 300 bytes. CPAY_INVALID: `tick_rate` is 0. [m] */
+CPAY_CHECKED cpay_status cpay_freezes_new(cpay_freezes *freezes, uint32_t tick_rate);
+
+/** Records that a frame is shown at time `at`, or that your receiver releases it. Any times are accepted: after a time below the one
+ * before, the duration is 0. Does not allocate. */
+CPAY_CHECKED cpay_status cpay_freezes_shown(cpay_freezes *freezes, uint64_t at);
+
+/** The counts of freezes, each modulo 2^64. */
+typedef struct {
+    uint64_t freezes; /**< `freezeCount`: how many frames were frozen */
+    uint64_t frozen;  /**< how long these frames were shown, in ticks: `totalFreezesDuration`, which is in seconds */
+} cpay_freeze_counts_info;
+
+/** Reports the counts. Does not allocate. */
+CPAY_CHECKED cpay_status cpay_freezes_counts(cpay_freezes *freezes, cpay_freeze_counts_info *counts);
+
 /* ---- Congestion control: when the packets of a transport arrived, and the largest bitrate ---- */
 
 /** How the arrivals of a transport are reported. Begin with cpay_transport_reporter_settings_init. */
@@ -1092,8 +1124,8 @@ void cpay_transport_reporter_settings_init(cpay_transport_reporter_settings *set
 /** Creates a reporter in an empty handle. It reports when each packet of a transport arrived, as the congestion control of a browser
  * needs it (draft-holmer-rmcat-transport-wide-cc-extensions-01). It is for one transport, that is one peer: the numbers count all
  * packets that this peer sends. `cname` is the canonical name of the reporter (RFC 3550, section 6.5.1), at most 255 bytes; without
- * has_report it is not sent. The name is copied. Do not accept `transport-cc` in an answer unless you send this feedback: docs/use/FEEDBACK.md.
- * CPAY_INVALID: `tick_rate` or `extension_id` 0, `window` out of range, or a longer name. [m] */
+ * has_report it is not sent. The name is copied. Do not accept `transport-cc` in an answer unless you send this feedback:
+ * docs/use/FEEDBACK.md. CPAY_INVALID: `tick_rate` or `extension_id` 0, `window` out of range, or a longer name. [m] */
 CPAY_CHECKED cpay_status cpay_transport_reporter_new(cpay_transport_reporter *reporter,
                                                      const cpay_transport_reporter_settings *settings, const uint8_t *cname,
                                                      size_t cname_len);
@@ -1112,8 +1144,8 @@ CPAY_CHECKED cpay_status cpay_transport_reporter_receive(cpay_transport_reporter
 CPAY_CHECKED cpay_status cpay_transport_reporter_poll(cpay_transport_reporter *reporter, uint64_t now, uint8_t *bytes,
                                                       size_t bytes_len, size_t *size);
 
-/** Reports when the next packet is due: `interval` after the last feedback; 0 if there was none, while parts of a feedback are left,
- * or while a packet waits that did not fit. CPAY_NONE: everything is reported. Does not allocate. */
+/** Reports when the next packet is due: `interval` after the last feedback. It is 0 before the first feedback, while parts of a
+ * feedback are left, or while a packet waits that did not fit. CPAY_NONE: everything is reported. Does not allocate. */
 CPAY_CHECKED cpay_status cpay_transport_reporter_next_deadline(cpay_transport_reporter *reporter, uint64_t *at);
 
 /** Forgets all numbers, and the packet that waits: the peer begins again. Without this call numbers behind the window are ignored until
@@ -1241,7 +1273,7 @@ typedef struct {
 } cpay_session_feedback;
 
 /** How the arrivals of packets are reported to the sender, for its congestion control: transport-wide feedback
- * (draft-holmer-rmcat-transport-wide-cc-extensions-01). cpay_session_settings_init sets all but the id. */
+ * (draft-holmer-rmcat-transport-wide-cc-extensions-01). cpay_session_settings_init sets everything except the id. */
 typedef struct {
     uint64_t interval;    /**< number of ticks between two feedbacks; 0 counts as 1. 100 by default: 50 to 250 ms suit video */
     size_t size;          /**< maximum size of the control information of a feedback in bytes; 1100 to begin with. A larger feedback
@@ -1291,15 +1323,16 @@ typedef struct {
 } cpay_session_settings;
 
 /** Sets how a session begins, for a purpose (CPAY_FOR_LIVE and so on) and a clock of milliseconds. Audio waits as the purpose says,
- * and live video for at most 200 ms. A session has at most 64 streams of 4096 packets, and a unit at most 1048576 bytes. A stream is announced with its second datagram,
- * ends 30 s after its last one, and takes packets for 200 ms after its BYE. Units that a decoder cannot show are marked. Nothing is
- * requested, and no report is sent: see cpay_session_settings_feedback. Does not allocate. */
+ * and live video for at most 200 ms. A session has at most 64 streams of 4096 packets, and a unit at most 1048576 bytes. A stream is
+ * announced with its second datagram, ends 30 s after its last one, and takes packets for 200 ms after its BYE. Units that a decoder
+ * cannot show are marked. Nothing is requested, and no report is sent: see cpay_session_settings_feedback. Does not allocate. */
 void cpay_session_settings_init(cpay_session_settings *settings, cpay_purpose purpose);
 
 /** Sets that the session sends feedback, as a sender of RTCP with this SSRC and this canonical name (RFC 3550, section 6.5.1). As
- * cpay_session_settings_init sets it, a missing number is requested after 10 ms and at most 6 times, and a keyframe at most once in
- * 500 ms, for 2 s after the latest datagram of the stream, if the format has `nack` and `pli`; waiting follows the round trip, up to
- * 800 ms; and a receiver report is sent each second. CPAY_INVALID: the name does not have 1 to 255 bytes. Does not allocate. */
+ * cpay_session_settings_init sets it, a missing number is requested after 10 ms and at most 6 times, if the format has `nack`. If it
+ * has `pli`, a keyframe is requested at most once in 500 ms. Both go on for 2 s after the latest datagram of the stream. Waiting
+ * follows the round trip, up to 800 ms. A receiver report is sent each second. CPAY_INVALID: the name does not have 1 to 255 bytes.
+ * Does not allocate. */
 CPAY_CHECKED cpay_status cpay_session_settings_feedback(cpay_session_settings *settings, uint32_t ssrc, const uint8_t *cname,
                                                         size_t cname_len);
 
@@ -1308,9 +1341,9 @@ CPAY_CHECKED cpay_status cpay_session_settings_feedback(cpay_session_settings *s
 
 /** Creates a session in an empty handle, for these payload formats. `no_media` lists payload types that share the SSRC and the
  * numbers of a stream and carry none of its media: comfort noise, error correction. A payload type plus CPAY_TELEPHONE is one of
- * telephone events beside audio: polls report its packets. `pairs` names the SSRCs of retransmissions. The lists are copied. CPAY_INVALID: unsupported codec, a rate, payload type, step,
- * `limit`, `max_streams` or `from_keyframe` out of range, a payload type with two meanings, or with has_feedback no name:
- * cpay_session_settings_check says which. [m] */
+ * telephone events beside audio: polls report its packets. `pairs` names the SSRCs of retransmissions. The lists are copied.
+ * CPAY_INVALID: unsupported codec, a rate, payload type, step, `limit`, `max_streams` or `from_keyframe` out of range, a payload type
+ * with two meanings, or with has_feedback no name: cpay_session_settings_check says which. [m] */
 CPAY_CHECKED cpay_status cpay_session_new(cpay_session *session, const cpay_session_settings *settings,
                                           const cpay_session_format *formats, size_t formats_len, const uint8_t *no_media,
                                           size_t no_media_len, const cpay_ssrc_pair *pairs, size_t pairs_len);
@@ -1431,27 +1464,28 @@ typedef struct {
 } cpay_event;
 
 /** Reports the next event at time `now`. Call it until CPAY_NONE after each datagram and at each deadline. Telephone events that wait
- * come first, at most 32 of them. Then the streams are asked in the order in which they began; each stream has CPAY_EVENT_BEGUN first, then its units in order, and CPAY_EVENT_ENDED last.
- * `event->data` lends `event->bytes` bytes in the session's memory. They stay there until the next cpay_session_poll with this session,
- * which may move or free them, or until cpay_session_free. No other call changes them. Never write them.
- * CPAY_NONE: there is no event. CPAY_OUT_OF_MEMORY: the frame, the request or the report stays, and the next call tries it again. Both
- * leave *event unchanged; bytes that it still points to are lent no longer. [m] */
+ * come first, at most 32 of them. Then the streams are asked in the order in which they began; each stream has CPAY_EVENT_BEGUN
+ * first, then its units in order, and CPAY_EVENT_ENDED last. `event->data` lends `event->bytes` bytes in the session's memory. They
+ * stay there until the next cpay_session_poll with this session, which may move or free them, or until cpay_session_free. No other
+ * call changes them. Never write them. CPAY_NONE: there is no event. CPAY_OUT_OF_MEMORY: the frame, the request or the report stays,
+ * and the next call tries it again. Both leave *event unchanged; bytes that it still points to are lent no longer. [m] */
 CPAY_CHECKED cpay_status cpay_session_poll(cpay_session *session, uint64_t now, cpay_event *event);
 
 /** Reports the header extension values of the unit that cpay_session_poll returned last: see cpay_receiver_values.
  * CPAY_NONE: no unit was returned yet. Does not allocate. */
 CPAY_CHECKED cpay_status cpay_session_values(cpay_session *session, cpay_extension_values *values);
 
-/** Reports the time at which a poll may have an event although no datagram arrives: 0 while telephone events wait.
- * CPAY_NONE: only a datagram can help. If a poll had no event and no packet left a stream in it, no earlier poll has one: docs/use/SESSION.md. */
+/** Reports the time at which a poll may have an event although no datagram arrives: 0 while telephone events wait. CPAY_NONE: only a
+ * datagram can help. If a poll had no event and no packet left a stream in it, no earlier poll has one: docs/use/SESSION.md. */
 CPAY_CHECKED cpay_status cpay_session_next_deadline(cpay_session *session, uint64_t *at);
 
 /** Ends the streams of this SSRC at time `now`: polls report their complete units, and then CPAY_EVENT_ENDED. Without such a stream
  * nothing changes. A later packet of the SSRC begins a new stream. */
 CPAY_CHECKED cpay_status cpay_session_end(cpay_session *session, uint64_t now, uint32_t ssrc);
 
-/** Forgets which packets of the transport arrived. Call it if another peer takes over the transport, or the peer counts from a new number:
- * without this call, numbers behind the last `window` ones are ignored until they pass the highest one. Without has_transport nothing changes. */
+/** Forgets which packets of the transport arrived. Call it if another peer takes over the transport, or the peer counts from a new
+ * number: without this call, numbers behind the last `window` ones are ignored until they pass the highest one. Without has_transport
+ * nothing changes. */
 CPAY_CHECKED cpay_status cpay_session_restart_transport(cpay_session *session);
 
 /** Ends all streams at time `now`, announced or not: polls report their complete units, and then CPAY_EVENT_ENDED for each. From
@@ -1592,13 +1626,14 @@ typedef enum {
                                           feedback */
 } cpay_keyframe_answer;
 
-/** Asks the sender of the stream with this SSRC for a keyframe, by a PLI (RFC 4585, section 6.3.1), for another receiver that needs one:
- * a viewer that joins, or that sent a PLI. *answer is what the session does. The PLI is in the stream's next CPAY_EVENT_FEEDBACK, beside
- * what the session requests itself, and all share one limit: two PLIs of a stream are at least `keyframe_interval` apart, and within
- * the interval a request waits. cpay_session_next_deadline is at most the time at which it can leave. One PLI answers all requests
- * before it, and so does a keyframe that a poll reports. A PLI can be lost: call this as often as you like, as long as you need a
- * keyframe. A stream in probation sends its PLI once it is announced, and a stream whose sender is silent once a datagram arrives. With
- * two streams of the SSRC, as after a change of format, the first one asks. Does not allocate. */
+/** Asks the sender of the stream with this SSRC for a keyframe, by a PLI (RFC 4585, section 6.3.1), for another receiver that needs
+ * one: a viewer that joins, or that sent a PLI. *answer is what the session does. The PLI is in the stream's next
+ * CPAY_EVENT_FEEDBACK, beside what the session requests itself. All share one limit: two PLIs of a stream are at least
+ * `keyframe_interval` apart, and within the interval a request waits. cpay_session_next_deadline is at most the time at which it can
+ * leave. One PLI answers all requests before it, and so does a keyframe that a poll reports. A PLI can be lost: call this as often as
+ * you like, as long as you need a keyframe. A stream in probation sends its PLI once it is announced, and a stream whose sender is
+ * silent once a datagram arrives. With two streams of the SSRC, as after a change of format, the first one asks. Does not
+ * allocate. */
 CPAY_CHECKED cpay_status cpay_session_request_keyframe(cpay_session *session, uint32_t ssrc, cpay_keyframe_answer *answer);
 
 /** Replaces the payload formats, as a new session description states them. Streams whose format is still there, with all of its
@@ -1608,6 +1643,51 @@ CPAY_CHECKED cpay_status cpay_session_request_keyframe(cpay_session *session, ui
  * none that cpay_session_new accepts with the other settings, and nothing has changed. CPAY_OUT_OF_MEMORY: nothing has changed. [m] */
 CPAY_CHECKED cpay_status cpay_session_set_formats(cpay_session *session, uint64_t now, const cpay_session_format *formats,
                                                   size_t formats_len);
+
+/* ---- RTCP: reports, names and requests for keyframes, without a session ---- */
+
+/** A sender report or a receiver report (RFC 3550, sections 6.4.1 and 6.4.2). */
+typedef struct {
+    uint64_t ntp_time; /**< with is_sender: seconds since 1900 in the upper 32 bits, fractions of a second in the lower 32 bits */
+    size_t blocks;     /**< number of report blocks, 0 to 31: see cpay_read_report_block */
+    uint32_t ssrc;     /**< SSRC of the sender of the report */
+    uint32_t rtp_time; /**< with is_sender: the same moment as an RTP time */
+    uint32_t packets;  /**< with is_sender: packets sent, modulo 2^32 */
+    uint32_t octets;   /**< with is_sender: payload bytes sent, modulo 2^32 */
+    bool is_sender;    /**< it is a sender report. A receiver report has neither times nor counts */
+} cpay_rtcp_report_info;
+
+/** Reads report number `index`, from 0, of one datagram of RTCP: sender reports and receiver reports count together. `full` is as for
+ * cpay_read_requests. CPAY_NONE: the datagram has no report with this index. CPAY_RTCP_HEADER_TOO_SHORT to CPAY_RTCP_FIR_LENGTH: not a
+ * compound RTCP packet. Does not allocate. */
+CPAY_CHECKED cpay_status cpay_read_report(const uint8_t *rtcp, size_t rtcp_len, bool full, size_t index, cpay_rtcp_report_info *report);
+
+/** Reads block number `place`, from 0, of report number `index`. CPAY_NONE: there is no such report, or it has fewer blocks. Other
+ * statuses are those of cpay_read_report. Does not allocate. */
+CPAY_CHECKED cpay_status cpay_read_report_block(const uint8_t *rtcp, size_t rtcp_len, bool full, size_t index, size_t place,
+                                                cpay_report_block_info *block);
+
+/** Writes a sender report to the output buffer, and its size to *size: 28 bytes, and 24 for each of its blocks, at most 31. The fields
+ * are those of cpay_sender_report or cpay_forwarder_report, and `ntp_time` is the same moment: seconds since 1900 in the upper 32 bits,
+ * fractions of a second in the lower 32 bits. It has no padding: packets that you write one after another are a compound packet (RFC
+ * 3550, section 6.1), which begins with a report and has a name. CPAY_TOO_SMALL: *size is written. CPAY_INVALID: more than 31 blocks, or
+ * `cumulative_lost` above 24 bits. [m] */
+CPAY_CHECKED cpay_status cpay_write_sender_report(uint64_t ntp_time, const cpay_sender_report_info *report,
+                                                  const cpay_report_block_info *blocks, size_t blocks_len, uint8_t *bytes,
+                                                  size_t bytes_len, size_t *size);
+
+/** Does the same for a receiver report by the sender of RTCP with this SSRC: 8 bytes, and 24 for each block. [m] */
+CPAY_CHECKED cpay_status cpay_write_receiver_report(uint32_t ssrc, const cpay_report_block_info *blocks, size_t blocks_len,
+                                                    uint8_t *bytes, size_t bytes_len, size_t *size);
+
+/** Writes a source description with the canonical name (CNAME) of a source (RFC 3550, section 6.5) to the output buffer, and its size
+ * to *size. CPAY_TOO_SMALL: *size is written. CPAY_INVALID: the name has more than 255 bytes. [m] */
+CPAY_CHECKED cpay_status cpay_write_cname(uint32_t ssrc, const uint8_t *cname, size_t cname_len, uint8_t *bytes, size_t bytes_len,
+                                          size_t *size);
+
+/** Writes a PLI, which asks the sender of the stream `media_ssrc` for a keyframe (RFC 4585, section 6.3.1), to the output buffer, and
+ * its size to *size: 12 bytes. With a session call cpay_session_request_keyframe instead. CPAY_TOO_SMALL: *size is written. [m] */
+CPAY_CHECKED cpay_status cpay_write_pli(uint32_t sender_ssrc, uint32_t media_ssrc, uint8_t *bytes, size_t bytes_len, size_t *size);
 
 /* ---- A depacketizer alone, for callers that order packets themselves ---- */
 

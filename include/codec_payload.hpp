@@ -256,6 +256,57 @@ public:
     [[nodiscard]] cpay_status limit(std::uint64_t &limit) noexcept { return cpay_adaptive_wait_limit(get(), &limit); }
 };
 
+/** Counts the freezes of a video, by the rule of the W3C. */
+class freezes : public handle<cpay_freezes, cpay_freezes_free> {
+public:
+    [[nodiscard]] cpay_status make(std::uint32_t tick_rate) noexcept { return cpay_freezes_new(get(), tick_rate); }
+    [[nodiscard]] cpay_status shown(std::uint64_t at) noexcept { return cpay_freezes_shown(get(), at); }
+    [[nodiscard]] cpay_status counts(cpay_freeze_counts_info &counts) noexcept { return cpay_freezes_counts(get(), &counts); }
+};
+
+/** Report number `index` of a datagram of RTCP: see cpay_read_report. */
+[[nodiscard]] inline cpay_status read_report(bytes rtcp, bool full, std::size_t index, cpay_rtcp_report_info &report) noexcept {
+    return cpay_read_report(rtcp.data(), rtcp.size(), full, index, &report);
+}
+
+/** Block number `place` of a report: see cpay_read_report_block. */
+[[nodiscard]] inline cpay_status read_report_block(bytes rtcp, bool full, std::size_t index, std::size_t place,
+                                                   cpay_report_block_info &block) noexcept {
+    return cpay_read_report_block(rtcp.data(), rtcp.size(), full, index, place, &block);
+}
+
+/** A sender report: see cpay_write_sender_report. */
+[[nodiscard]] inline cpay_status write_sender_report(std::uint64_t ntp_time, const cpay_sender_report_info &report,
+                                                     view<const cpay_report_block_info> blocks, room to, std::size_t &size) noexcept {
+    return cpay_write_sender_report(ntp_time, &report, blocks.data(), blocks.size(), to.data(), to.size(), &size);
+}
+
+/** A receiver report: see cpay_write_receiver_report. */
+[[nodiscard]] inline cpay_status write_receiver_report(std::uint32_t ssrc, view<const cpay_report_block_info> blocks, room to,
+                                                       std::size_t &size) noexcept {
+    return cpay_write_receiver_report(ssrc, blocks.data(), blocks.size(), to.data(), to.size(), &size);
+}
+
+/** A source description with a canonical name: see cpay_write_cname. */
+[[nodiscard]] inline cpay_status write_cname(std::uint32_t ssrc, bytes cname, room to, std::size_t &size) noexcept {
+    return cpay_write_cname(ssrc, cname.data(), cname.size(), to.data(), to.size(), &size);
+}
+
+/** A PLI: see cpay_write_pli. */
+[[nodiscard]] inline cpay_status write_pli(std::uint32_t sender_ssrc, std::uint32_t media_ssrc, room to, std::size_t &size) noexcept {
+    return cpay_write_pli(sender_ssrc, media_ssrc, to.data(), to.size(), &size);
+}
+
+/** Whether a keyframe begins in a payload: see cpay_begins_keyframe. */
+[[nodiscard]] inline cpay_status begins_keyframe(cpay_codec codec, bytes payload, bool &begins) noexcept {
+    return cpay_begins_keyframe(codec, payload.data(), payload.size(), &begins);
+}
+
+/** The temporal layer of a payload: see cpay_temporal_layer. */
+[[nodiscard]] inline cpay_status temporal_layer(cpay_codec codec, bytes payload, cpay_temporal_layer_info &layer) noexcept {
+    return cpay_temporal_layer(codec, payload.data(), payload.size(), &layer);
+}
+
 /** Datagrams of a transport in, packets that report when each of its packets arrived out. */
 class transport_reporter : public handle<cpay_transport_reporter, cpay_transport_reporter_free> {
 public:

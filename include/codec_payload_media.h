@@ -56,6 +56,22 @@ bool cpay_av1_is_keyframe(const uint8_t *payload, size_t payload_len);   /**< wh
 CPAY_CHECKED cpay_status cpay_is_head(cpay_codec codec, const uint8_t *payload, size_t payload_len, bool *is_head);
 CPAY_CHECKED cpay_status cpay_is_tail(cpay_codec codec, bool marker, const uint8_t *payload, size_t payload_len, bool *is_tail);
 
+/** Reports whether a payload is the first packet of a keyframe, so that a viewer can begin with it. A forwarder begins with the same
+ * packets: see cpay_forwarder_write, which has them by codec. For codecs of audio each packet is one. CPAY_INVALID: unsupported codec. */
+CPAY_CHECKED cpay_status cpay_begins_keyframe(cpay_codec codec, const uint8_t *payload, size_t payload_len, bool *begins);
+
+/** The temporal layer of a packet. */
+typedef struct {
+    uint8_t id; /**< TID: 0 is the base layer */
+    bool sync;  /**< VP8: Y, the frame refers to frames of the base layer alone. VP9: U, from this frame on a decoder can have a
+                     higher layer */
+} cpay_temporal_layer_info;
+
+/** Reads the temporal layer of a payload of VP8 (RFC 7741, section 4.2) or VP9 (RFC 9628, section 4.2). A server leaves packets out by
+ * it: see cpay_forwarder_leave_out. CPAY_NONE: the payload names no layer, or the codec is another one. */
+CPAY_CHECKED cpay_status cpay_temporal_layer(cpay_codec codec, const uint8_t *payload, size_t payload_len,
+                                             cpay_temporal_layer_info *layer);
+
 /** Returns the extended sequence number of a packet: the number nearest to `previous`, the highest so far, whose low 16 bits
  * equal `number`; half the range counts as ahead. The first packet gets its 16 bits unchanged. If packets from before the first
  * one may still arrive, begin with 65536 as the previous number. */

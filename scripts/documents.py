@@ -97,6 +97,7 @@ RUN_ELSEWHERE = {
     "make -C tools/rtp_record": ("tools/rtp_record/test.sh", "make -s all"),
     "make": ("tools/rtp_record/test.sh", "make -s all"),
     "cc program.c": ("packaging/install_test.sh", "pkg-config --cflags codec-payload"),
+    "cc -Iinclude program.c": ("scripts/documents.py", "{LIBRARY}/libcodec_payload.a"),
     "cargo test": ("scripts/rust.sh", "cargo test --quiet"),
     "cargo run --example": ("scripts/rust.sh", "cargo run --quiet --example"),
     "cargo run": ("scripts/documents.py", '"cargo", "run"'),

@@ -30,7 +30,7 @@ ROOT = os.path.dirname(os.path.dirname(os.path.realpath(__file__)))
 ARCHIVE = f"{ROOT}/c/out/libcodec_payload.a"
 # Examples that receive nothing.
 RECEIVE_NOTHING = {"sdp"}
-# Programs that need a peer of their own, which tools/chromium/chromium_peer.py is.
+# Programs that need a special peer, which tools/chromium/chromium_peer.py is.
 NEED_A_PEER = {"port_peer"}
 
 RUST = """
@@ -158,7 +158,7 @@ impl Drop for Session {
 """
 
 
-# The calls that the linker wraps, and what stands in for them.
+# The calls that the linker wraps, and what replaces them.
 WRAPPED = ["cpay_receiver_new", "cpay_receiver_receive", "cpay_receiver_free", "cpay_session_new", "cpay_session_receive",
            "cpay_session_poll", "cpay_session_free"]
 C = r"""

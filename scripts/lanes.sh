@@ -8,7 +8,7 @@
 #                         ends with status 1.
 #   said NAME             the last line that a function printed
 
-# one NAME: a function, with a folder of its own
+# one NAME: a function, with a separate folder
 one() {
     work=$work/$1
     "$1"

@@ -210,16 +210,16 @@ def units_under_loss():
     keep("units_under_loss", figure)
 
 
-# The layers of the crates, from the top: groups with a title, and their crates in lines. A crate uses crates of its own layer or
-# of those below it.
+# The layers of the crates, from the top: groups with a title, and their crates in lines. A crate uses crates of its layer and of
+# the layers below.
 LAYERS = (
     (("library for C", "c/handle"), ("packets and frames, in Rattle", "core"), ("theorems on whole runs", "server_runs session_runs/forward_runs datagram_runs/buffer_runs"),
      ("tests", "codec_tests run_tests/datagram_tests"), ("a program", "vectors/lines")),
-    (("all streams of a port", "session"),),
-    (("receiving", "receiver jitter/keyframes references/buffer queue index"),
+    (("all streams of a port", "session/session_requests session_formats"),),
+    (("receiving", "receiver datagrams jitter/numbers keyframes references/buffer contiguity metadata/queue index"),
      ("feedback", "feedback feedback_requests feedback_transport/feedback_wait feedback_congestion feedback_ccfb"),
-     ("sending", "payloader sending sending_red/sending_history sending_forward")),
-    (("payload formats", "codec audio vp8 vp9 av1"), ("repetition", "red"), ("what frames say", "media vpx descriptor syntax"), ("packets", "rtp rtcp")),
+     ("sending, and what viewers see", "payloader sending sending_red/sending_history sending_forward/feedback_freezes")),
+    (("payload formats", "codec audio vp8 vp9 av1"), ("repetition", "red"), ("what frames say", "media vpx layers/descriptor syntax"), ("packets", "rtp rtcp")),
     (("what all share", "base"),),
 )
 # Pixels: of the picture's width, of a letter, of a crate's box, between things.

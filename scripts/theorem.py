@@ -23,7 +23,7 @@ import os
 import re
 import sys
 
-# the notation and names of the standard library; TOLD: those that an entry of another name explains
+# the notation and names of the standard library; TOLD: the names that an entry of another name explains
 STANDARD = {
     '≡': 'a ≡ b: a and b are equal', '≢': 'a ≢ b: they are not', '⊎': 'P ⊎ Q: P or Q', '↔': 'P ↔ Q: each implies the other', '×': 'P × Q: P and Q; also pairs, with parts .0/.1 or .1/.2. (x : T) × P x: there is an x of type T with P x',
     '→': 'P → Q: P implies Q; also functions. (x : T) → P x: for all x. Nested arrows: all premises, then the conclusion', '⊥': 'false', '⊤': 'true', 'Unit': 'Unit {0}: true; as a type of values, the type with one value', 'ℕ': 'the numbers 0, 1, 2, …',

@@ -47,6 +47,10 @@ void cpay_adaptive_wait_free(cpay_adaptive_wait *wait) {
     if (wait) proved_cpay_free(&wait->handle);
 }
 
+void cpay_freezes_free(cpay_freezes *freezes) {
+    if (freezes) proved_cpay_free(&freezes->handle);
+}
+
 void cpay_transport_reporter_free(cpay_transport_reporter *reporter) {
     if (reporter) proved_cpay_free(&reporter->handle);
 }
@@ -429,6 +433,21 @@ cpay_status cpay_adaptive_wait_limit(cpay_adaptive_wait *wait, uint64_t *limit) 
     return proved_cpay_adaptive_wait_limit(&wait->handle, limit);
 }
 
+cpay_status proved_cpay_freezes_new(cpay_handle *freezes, uint32_t tick_rate);
+cpay_status cpay_freezes_new(cpay_freezes *freezes, uint32_t tick_rate) {
+    return proved_cpay_freezes_new(&freezes->handle, tick_rate);
+}
+
+cpay_status proved_cpay_freezes_shown(cpay_handle *freezes, uint64_t at);
+cpay_status cpay_freezes_shown(cpay_freezes *freezes, uint64_t at) {
+    return proved_cpay_freezes_shown(&freezes->handle, at);
+}
+
+cpay_status proved_cpay_freezes_counts(cpay_handle *freezes, cpay_freeze_counts_info *counts);
+cpay_status cpay_freezes_counts(cpay_freezes *freezes, cpay_freeze_counts_info *counts) {
+    return proved_cpay_freezes_counts(&freezes->handle, counts);
+}
+
 void proved_cpay_transport_reporter_settings_init(cpay_transport_reporter_settings *settings, uint8_t extension_id,
                                                   uint32_t ssrc);
 void cpay_transport_reporter_settings_init(cpay_transport_reporter_settings *settings, uint8_t extension_id, uint32_t ssrc) {
@@ -692,6 +711,56 @@ cpay_status cpay_session_set_formats(cpay_session *session, uint64_t now, const 
                                            formats_len);
 }
 
+cpay_status proved_cpay_read_report(const uint8_t *rtcp, size_t rtcp_len, bool full, size_t index,
+                                    cpay_rtcp_report_info *report);
+cpay_status cpay_read_report(const uint8_t *rtcp, size_t rtcp_len, bool full, size_t index, cpay_rtcp_report_info *report) {
+    if (!rtcp && rtcp_len) return CPAY_INVALID;
+    return proved_cpay_read_report(rtcp ? rtcp : (const uint8_t *)nothing, rtcp_len, full, index, report);
+}
+
+cpay_status proved_cpay_read_report_block(const uint8_t *rtcp, size_t rtcp_len, bool full, size_t index, size_t place,
+                                          cpay_report_block_info *block);
+cpay_status cpay_read_report_block(const uint8_t *rtcp, size_t rtcp_len, bool full, size_t index, size_t place,
+                                   cpay_report_block_info *block) {
+    if (!rtcp && rtcp_len) return CPAY_INVALID;
+    return proved_cpay_read_report_block(rtcp ? rtcp : (const uint8_t *)nothing, rtcp_len, full, index, place, block);
+}
+
+cpay_status proved_cpay_write_sender_report(uint64_t ntp_time, const cpay_sender_report_info *report,
+                                            const cpay_report_block_info *blocks, size_t blocks_len, uint8_t *bytes,
+                                            size_t bytes_len, size_t *size);
+cpay_status cpay_write_sender_report(uint64_t ntp_time, const cpay_sender_report_info *report,
+                                     const cpay_report_block_info *blocks, size_t blocks_len, uint8_t *bytes, size_t bytes_len,
+                                     size_t *size) {
+    if ((!blocks && blocks_len) || (!bytes && bytes_len)) return CPAY_INVALID;
+    return proved_cpay_write_sender_report(ntp_time, report, blocks ? blocks : (const cpay_report_block_info *)nothing,
+                                           blocks_len, bytes ? bytes : (uint8_t *)nothing, bytes_len, size);
+}
+
+cpay_status proved_cpay_write_receiver_report(uint32_t ssrc, const cpay_report_block_info *blocks, size_t blocks_len,
+                                              uint8_t *bytes, size_t bytes_len, size_t *size);
+cpay_status cpay_write_receiver_report(uint32_t ssrc, const cpay_report_block_info *blocks, size_t blocks_len, uint8_t *bytes,
+                                       size_t bytes_len, size_t *size) {
+    if ((!blocks && blocks_len) || (!bytes && bytes_len)) return CPAY_INVALID;
+    return proved_cpay_write_receiver_report(ssrc, blocks ? blocks : (const cpay_report_block_info *)nothing, blocks_len,
+                                             bytes ? bytes : (uint8_t *)nothing, bytes_len, size);
+}
+
+cpay_status proved_cpay_write_cname(uint32_t ssrc, const uint8_t *cname, size_t cname_len, uint8_t *bytes, size_t bytes_len,
+                                    size_t *size);
+cpay_status cpay_write_cname(uint32_t ssrc, const uint8_t *cname, size_t cname_len, uint8_t *bytes, size_t bytes_len,
+                             size_t *size) {
+    if ((!cname && cname_len) || (!bytes && bytes_len)) return CPAY_INVALID;
+    return proved_cpay_write_cname(ssrc, cname ? cname : (const uint8_t *)nothing, cname_len,
+                                   bytes ? bytes : (uint8_t *)nothing, bytes_len, size);
+}
+
+cpay_status proved_cpay_write_pli(uint32_t sender_ssrc, uint32_t media_ssrc, uint8_t *bytes, size_t bytes_len, size_t *size);
+cpay_status cpay_write_pli(uint32_t sender_ssrc, uint32_t media_ssrc, uint8_t *bytes, size_t bytes_len, size_t *size) {
+    if (!bytes && bytes_len) return CPAY_INVALID;
+    return proved_cpay_write_pli(sender_ssrc, media_ssrc, bytes ? bytes : (uint8_t *)nothing, bytes_len, size);
+}
+
 cpay_status proved_cpay_depacketizer_new(cpay_handle *depacketizer, const cpay_spec *spec);
 cpay_status cpay_depacketizer_new(cpay_depacketizer *depacketizer, const cpay_spec *spec) {
     return proved_cpay_depacketizer_new(&depacketizer->handle, spec);
@@ -849,6 +918,19 @@ cpay_status proved_cpay_is_tail(cpay_codec codec, bool marker, const uint8_t *pa
 cpay_status cpay_is_tail(cpay_codec codec, bool marker, const uint8_t *payload, size_t payload_len, bool *is_tail) {
     if (!payload && payload_len) return CPAY_INVALID;
     return proved_cpay_is_tail(codec, marker, payload ? payload : (const uint8_t *)nothing, payload_len, is_tail);
+}
+
+cpay_status proved_cpay_begins_keyframe(cpay_codec codec, const uint8_t *payload, size_t payload_len, bool *begins);
+cpay_status cpay_begins_keyframe(cpay_codec codec, const uint8_t *payload, size_t payload_len, bool *begins) {
+    if (!payload && payload_len) return CPAY_INVALID;
+    return proved_cpay_begins_keyframe(codec, payload ? payload : (const uint8_t *)nothing, payload_len, begins);
+}
+
+cpay_status proved_cpay_temporal_layer(cpay_codec codec, const uint8_t *payload, size_t payload_len,
+                                       cpay_temporal_layer_info *layer);
+cpay_status cpay_temporal_layer(cpay_codec codec, const uint8_t *payload, size_t payload_len, cpay_temporal_layer_info *layer) {
+    if (!payload && payload_len) return CPAY_INVALID;
+    return proved_cpay_temporal_layer(codec, payload ? payload : (const uint8_t *)nothing, payload_len, layer);
 }
 
 uint64_t proved_cpay_extend_number(uint64_t previous, bool has_previous, uint16_t number);

@@ -6,7 +6,7 @@
 
 static bool is_letter_or_digit(char it) { return (lower(it) >= 'a' && lower(it) <= 'z') || (it >= '0' && it <= '9'); }
 
-/* The only word of a text. Returns false if there is none, or more than one. */
+/* The only word of a text. Returns false if the text has no word, or several. */
 static bool only_word(text value, text *found) {
     *found = word(&value);
     return found->len > 0 && trimmed(value).len == 0;
@@ -33,7 +33,7 @@ static cpay_sdp_error read_msid(cpay_sdp_media *media, text value) {
     return CPAY_SDP_NO_ERROR;
 }
 
-/* The restriction identifier at the front (RFC 8851, section 10), which is skipped; empty if there is none. */
+/* The restriction identifier at the front (RFC 8851, section 10), which is skipped; empty if the text has no identifier. */
 static text rid_of(text *it) {
     size_t size = 0;
     while (size < it->len && (is_letter_or_digit(it->at[size]) || it->at[size] == '-' || it->at[size] == '_')) size++;
@@ -174,7 +174,7 @@ static void read_flag(cpay_sdp_media *media, text name, bool in_section) {
     if (equals(name, "end-of-candidates")) media->transport.end_of_candidates = true;
 }
 
-/* Where an attribute is read: in all parts, in sections, in sections of RTP. */
+/* In which parts an attribute is read: in all, in sections, in sections of RTP. */
 enum { IN_ALL, IN_SECTIONS, IN_RTP };
 
 static const struct {
@@ -198,7 +198,7 @@ static cpay_sdp_error read_beside_formats(cpay_sdp_media *media, text attribute,
     return CPAY_SDP_NO_ERROR;
 }
 
-/* A section begins with what the session says. The first fingerprint of its own replaces all of the session's. */
+/* A section begins with what the session says. The section's first fingerprint replaces all of the session's. */
 static void begin_with(cpay_sdp_media *media, const cpay_sdp_media *session) {
     media->direction = session->direction;
     media->transport = session->transport;

@@ -14,6 +14,7 @@ typedef union {
     cpay_forwarder forwarder;
     cpay_receiver receiver;
     cpay_adaptive_wait adaptive_wait;
+    cpay_freezes freezes;
     cpay_transport_reporter transport_reporter;
     cpay_sent_packets sent_packets;
     cpay_session session;

@@ -242,6 +242,32 @@ static int history(int *met) {
     return kept == before ? 0 : 9;
 }
 
+/* Freezes, and RTCP that a caller writes itself. Only the first call keeps memory. */
+static int watching(int *met) {
+    long before = kept;
+    static const cpay_report_block_info block = {.ssrc = 2};
+    static const cpay_sender_report_info report = {.ssrc = 1};
+    cpay_freezes freezes = CPAY_INIT;
+    cpay_freeze_counts_info counts = {1, 1};
+    uint8_t bytes[52];
+    size_t size = 0;
+    cpay_status status;
+    AGAIN(status, cpay_freezes_new(&freezes, 1000));
+    if (status) return 1;
+    long made = asked, held = kept;
+    if (cpay_freezes_shown(&freezes, 5) || cpay_freezes_counts(&freezes, &counts) || counts.freezes || asked != made) return 2;
+    AGAIN(status, cpay_write_sender_report(7, &report, &block, 1, bytes, sizeof bytes, &size));
+    if (status || size != 52 || bytes[1] != 200) return 3;
+    AGAIN(status, cpay_write_receiver_report(3, &block, 1, bytes, sizeof bytes, &size));
+    if (status || size != 32 || bytes[1] != 201) return 4;
+    AGAIN(status, cpay_write_cname(3, bytes, 2, bytes + 20, 32, &size));
+    if (status || size != 16 || bytes[21] != 202) return 5;
+    AGAIN(status, cpay_write_pli(3, 2, bytes, sizeof bytes, &size));
+    if (status || size != 12 || bytes[1] != 206 || kept != held) return 6;
+    cpay_freezes_free(&freezes);
+    return kept == before ? 0 : 7;
+}
+
 /* A limit of waiting: two numbers are missing, and one arrives. Only the first call allocates. */
 static int waiting(int *met) {
     long before = kept;
@@ -654,6 +680,7 @@ static int too_large(void) {
     TAKES(400, "forwarder", cpay_forwarder_new(&it.forwarder, &forwards));
     TAKES(1610, "receiver", cpay_receiver_new(&it.receiver, &receives, NULL, 0));
     TAKES(1900, "adaptive wait", cpay_adaptive_wait_new(&it.adaptive_wait, &waits));
+    TAKES(350, "counter of freezes", cpay_freezes_new(&it.freezes, 1000));
     TAKES(250, "transport reporter", cpay_transport_reporter_new(&it.transport_reporter, &reports, NULL, 0));
     TAKES(100, "list of sent packets", cpay_sent_packets_new(&it.sent_packets, 2048));
     TAKES(1610, "session", cpay_session_new(&it.session, &port, &format, 1, NULL, 0, NULL, 0));
@@ -727,6 +754,7 @@ static int session(int *met) {
     if (!ended) ended = datagrams(met);
     if (!ended) ended = history(met);
     if (!ended) ended = waiting(met);
+    if (!ended) ended = watching(met);
     if (!ended) ended = transport(met);
     if (!ended) ended = port(met);
     if (!ended) ended = ending(met);

@@ -228,6 +228,37 @@ void over_an_adaptive_wait() {
     CHECK(wait.limit(limit) == CPAY_OK && limit == 100);
 }
 
+void over_freezes() {
+    cpay_freeze_counts_info counts = {};
+    cpay::freezes freezes;
+    CHECK(freezes.counts(counts) == CPAY_EMPTY && freezes.make(0) == CPAY_INVALID && freezes.make(1000) == CPAY_OK);
+    // 29 durations of 50 ms and one of 206 ms: the average is 55.2 ms
+    for (std::uint64_t at = 0; at <= 1450; at += 50) CHECK(freezes.shown(at) == CPAY_OK);
+    CHECK(freezes.shown(1450 + 206) == CPAY_OK && freezes.counts(counts) == CPAY_OK && counts.freezes == 1 && counts.frozen == 206);
+}
+
+void over_rtcp() {
+    std::array<std::uint8_t, 64> to{};
+    std::size_t size = 0;
+    const std::array<cpay_report_block_info, 1> blocks = {{{2, 0, 0, 0, 0, 0, 0}}};
+    const cpay_sender_report_info sent = {1, 2, 3, 4};
+    const std::array<std::uint8_t, 2> name = {'m', 'e'};
+    cpay_rtcp_report_info report = {};
+    cpay_report_block_info block = {};
+    CHECK(cpay::write_sender_report(5, sent, blocks, to, size) == CPAY_OK && size == 52);
+    const cpay::bytes written{to.data(), size};
+    CHECK(cpay::read_report(written, true, 0, report) == CPAY_OK && report.ntp_time == 5 && report.octets == 4 && report.is_sender);
+    CHECK(cpay::read_report_block(written, true, 0, 0, block) == CPAY_OK && block.ssrc == 2);
+    CHECK(cpay::write_receiver_report(1, blocks, to, size) == CPAY_OK && size == 32);
+    CHECK(cpay::write_cname(1, name, to, size) == CPAY_OK && size == 16);
+    CHECK(cpay::write_pli(1, 2, to, size) == CPAY_OK && size == 12 && to[1] == 206);
+    const std::array<std::uint8_t, 4> payload = {0x90, 0x20, 0xa0, 0};
+    cpay_temporal_layer_info layer = {};
+    bool begins = false;
+    CHECK(cpay::begins_keyframe(CPAY_VP8, payload, begins) == CPAY_OK && begins);
+    CHECK(cpay::temporal_layer(CPAY_VP8, payload, layer) == CPAY_OK && layer.id == 2 && layer.sync);
+}
+
 void over_a_transport() {
     cpay_transport_reporter_settings settings;
     cpay_transport_reporter_settings_init(&settings, 5, 1);
@@ -278,6 +309,8 @@ int main() {
     over_a_history();
     over_a_forwarder();
     over_an_adaptive_wait();
+    over_freezes();
+    over_rtcp();
     over_a_transport();
     over_red();
     return checked();

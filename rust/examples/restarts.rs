@@ -28,7 +28,7 @@ const DESCRIPTOR: usize = 4;
 const LONGEST: u64 = 300;
 /// The same if the end of the former sender arrives late.
 const LONGEST_AFTER_END: u64 = 700;
-/// How old the packets are that are still sent again, in milliseconds.
+/// How old the packets are that are still retransmitted, in milliseconds.
 const RECENT: u64 = 5_000;
 /// How far behind the greatest number the second sender begins: within the windows, at their ends, and outside.
 const DISTANCES: [u16; 12] = [

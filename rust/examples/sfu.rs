@@ -16,14 +16,15 @@
 //! The network is simulated: 20 ms for a hop, with losses each way on both hops.
 
 use codec_payload::forward::{ForwardSettings, Forwarded, Forwarder};
+use codec_payload::freezes::{FreezeCounts, Freezes};
 use codec_payload::history::{KeptOnce, OriginalStream, Request, Resent, RetransmissionStream};
 use codec_payload::keyframes::FromKeyframe;
 use codec_payload::rtcp::CompoundRule;
-use codec_payload::rtp::{RtpPacket, is_rtcp};
+use codec_payload::rtp::RtpPacket;
 use codec_payload::{
-    Codec, CodecPacketizer, CodecSpec, Event, ExtensionValues, FeedbackSettings, Format, Frequency,
-    History, HistorySettings, MediaTime, Sample, Sender, SenderSettings, Session, SessionSettings,
-    SsrcPair, Ticks, Vp8Packetizer, read_requests,
+    Arrival, Codec, CodecPacketizer, CodecSpec, Event, ExtensionValues, FeedbackSettings, Format,
+    Frequency, History, HistorySettings, MediaTime, Sample, Sender, SenderSettings, Session,
+    SessionSettings, SsrcPair, Ticks, Vp8Packetizer, read_requests,
 };
 use std::collections::VecDeque;
 use std::error::Error;
@@ -80,12 +81,6 @@ impl Way {
     }
 }
 
-/// The stream of a layer.
-fn layer_stream(ssrc: u32) -> OriginalStream {
-    let payload_type = VP8;
-    OriginalStream { ssrc, payload_type }
-}
-
 // ---- The recipe ----
 
 struct Sfu {
@@ -110,23 +105,18 @@ impl Sfu {
         Ok(did == Forwarded::Began)
     }
 
-    /// A datagram of the publisher. The SSRCs of its layers are those of the session description.
+    /// A datagram of the publisher. The session says which of its streams received it; the streams are the layers.
     fn receive(&mut self, now: u64, datagram: &[u8]) -> Done {
-        self.session.receive(Ticks(now), datagram)?;
-        let (Ok(packet), false) = (RtpPacket::parse(datagram), is_rtcp(datagram)) else {
-            return Ok(());
+        let Arrival::Stream { ssrc, .. } = self.session.receive(Ticks(now), datagram)? else {
+            return Ok(()); // RTCP, not of a layer, or padding alone: a probe
         };
-        let (ssrc, mut bytes) = (packet.header.ssrc % RTX_SSRC, datagram.to_vec());
-        let Some(store) = (ssrc as usize).checked_sub(1).filter(|it| *it < 2) else {
-            return Ok(());
-        };
-        let repeats = packet.header.payload_type == RTX;
-        if repeats && layer_stream(ssrc).write(datagram, &mut bytes).is_err() {
-            return Ok(()); // padding alone, which probes the bandwidth
+        let (store, payload_type, mut bytes) = (ssrc as usize - 1, VP8, datagram.to_vec());
+        if RtpPacket::parse(datagram)?.header.ssrc != ssrc {
+            // A retransmission: the packet that it repeats.
+            OriginalStream { ssrc, payload_type }.write(datagram, &mut bytes)?;
         }
-        let is_new = self.stores[store].keep_once(&bytes)? == KeptOnce::New;
         let first = RtpPacket::parse(&bytes)?.header.sequence_number;
-        if is_new && self.forward(now, &bytes)? {
+        if self.stores[store].keep_once(&bytes)? == KeptOnce::New && self.forward(now, &bytes)? {
             // Packets of the keyframe that came before its first one.
             for number in (1..64).map(|step| first.wrapping_add(step)) {
                 if self.stores[store].resend(Ticks(0), number, &mut bytes)? == Resent::Written {
@@ -139,25 +129,23 @@ impl Sfu {
 
     /// RTCP of the viewer. What is malformed requests nothing.
     fn answer(&mut self, now: u64, rtcp: &[u8]) -> Done {
+        let mut out = Vec::new();
         let requests = read_requests(CompoundRule::ReducedSize, VIEWER, rtcp);
         let (Some(source), Ok(requests)) = (self.viewer.source(), requests) else {
             return Ok(());
         };
         for request in requests {
-            match request {
-                Request::Packet(number) => self.resend(now, source, number)?,
-                _ => _ = self.session.request_keyframe(source),
+            let Request::Packet(number) = request else {
+                self.session.request_keyframe(source);
+                continue;
+            };
+            if let Some(packet) = self
+                .viewer
+                .requested(number, &self.stores[source as usize - 1])
+                && self.viewer.write_again(&packet, &mut out)?
+            {
+                self.to_viewer.send(now, &out);
             }
-        }
-        Ok(())
-    }
-
-    fn resend(&mut self, now: u64, source: u32, number: u16) -> Done {
-        let (store, mut out) = (&self.stores[source as usize - 1], Vec::new());
-        if let Some(packet) = self.viewer.requested(number, store)
-            && self.viewer.write_again(&packet, &mut out)?
-        {
-            self.to_viewer.send(now, &out);
         }
         Ok(())
     }
@@ -255,45 +243,25 @@ impl Layer {
 // ---- The simulated viewer ----
 
 /// What the viewer shows.
-#[derive(Default)]
 struct Picture {
     shown: usize,
     switches: u32,
-    freezes: u32,
-    /// In milliseconds.
-    frozen: u64,
-    /// When the frame before was shown.
-    before: u64,
-    /// Between the latest frames.
-    intervals: [u64; 30],
+    freezes: Freezes,
     /// The time and the layer of the frame before.
     latest: [u8; 5],
 }
 
 impl Picture {
-    /// Counts a frame. Two layers may have one of the same time, which counts once. A freeze is an interval of at least three average
-    /// ones, and of 150 ms more than one (W3C's freezeCount).
+    /// Counts a frame. Two layers may have one of the same time, which counts once.
     fn show(&mut self, now: u64, frame: &[u8]) {
         let end = &frame[FRAME - 5..];
         let again = self.shown > 0 && end[..4] == self.latest[..4];
         self.switches += u32::from(self.shown > 0 && end[4] != self.latest[4]);
         self.latest.copy_from_slice(end);
-        if again {
-            return;
+        if !again {
+            self.shown += 1;
+            self.freezes.shown(Ticks(now));
         }
-        let interval = now - self.before;
-        let average = if self.shown > 30 {
-            self.intervals.iter().sum::<u64>() / 30
-        } else {
-            INTERVAL
-        };
-        if self.shown > 0 && interval >= 3 * average && interval >= average + 150 {
-            self.freezes += 1;
-            self.frozen += interval;
-        }
-        self.intervals[self.shown % 30] = interval;
-        self.shown += 1;
-        self.before = now;
     }
 }
 
@@ -379,7 +347,13 @@ fn run(loss: u64) -> Result<Picture, Box<dyn Error>> {
     let mut layers = [Layer::new(1)?, Layer::new(2)?];
     let mut sfu = sfu(loss)?;
     let mut viewer = session(VIEWER + 1, &[(VIEWER, VIEWER_RTX)])?;
-    let mut picture = Picture::default();
+    let freezes = Freezes::new(Frequency::make(1_000).ok_or("a rate of 0")?);
+    let mut picture = Picture {
+        shown: 0,
+        switches: 0,
+        freezes,
+        latest: [0; 5],
+    };
     for now in 0..FRAMES * INTERVAL + 1_000 {
         while let Some(rtcp) = sfu.to_publisher.arrived(now) {
             for layer in &mut layers {
@@ -412,13 +386,9 @@ fn run(loss: u64) -> Result<Picture, Box<dyn Error>> {
 
 fn main() -> Done {
     for loss in [0, 2, 5] {
-        let Picture {
-            shown,
-            switches,
-            freezes,
-            frozen,
-            ..
-        } = run(loss)?;
+        let picture = run(loss)?;
+        let (shown, switches) = (picture.shown, picture.switches);
+        let FreezeCounts { freezes, frozen } = picture.freezes.counts();
         println!(
             "{loss} %: {shown} of {FRAMES} frames shown, {switches} switches, {freezes} freezes, {frozen} ms frozen"
         );

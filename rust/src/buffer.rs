@@ -8,10 +8,8 @@ use alloc::vec::Vec;
 mod ends;
 pub mod frames;
 mod held_packet;
-mod known;
 mod leaving;
 mod one_packet;
-mod packed_header;
 mod packets;
 mod pair;
 mod placed;
@@ -26,15 +24,16 @@ use crate::codec::{CodecDepacketizer, Depacketizer, NoBox};
 use crate::contiguity::Contiguity;
 use crate::error::PacketError;
 use crate::interface::CodecExtra;
+pub use crate::metadata::known::PackedMeta;
+use crate::metadata::known::are_plain;
+pub use crate::metadata::meta::RtpMeta;
+pub use crate::metadata::packed_header::PackedHeader;
 use crate::queue::tiers::TieredQueue;
 use crate::wire::{SeqNo, Ticks};
 use ends::{evict, place_at, row_with};
 use frames::{CompleteFrame, drop_first, frame_of, lowest_frame, mend_first, note};
 use held_packet::{HeldPacket, Packet};
-pub use known::PackedMeta;
-use known::are_plain;
 pub use leaving::Left;
-pub use packed_header::PackedHeader;
 use packets::{
     copy_metas, copy_of, drop_front, find_place, find_place_near, frame_range, hold, is_at,
     is_too_late, make_room, received_at, row_from, starts_next, unpack,
@@ -45,7 +44,7 @@ use placed::placed_among;
 pub use popped::PoppedUnit;
 pub use popped_packets::PoppedPackets;
 use rows::row_of_packet;
-pub use unit::{Depacketized, RtpMeta, UnitInfo};
+pub use unit::{Depacketized, UnitInfo};
 
 /// The largest number of packets that a buffer from [`DepacketizingBuffer::new`] holds.
 const HELD_LIMIT: usize = 4_096;
@@ -198,18 +197,6 @@ impl<B: Depacketizer> DepacketizingBuffer<B> {
     ///   numbers follow.
     pub fn pop(&mut self) -> Option<Result<Depacketized, PacketError>> {
         self.pop_counted().0
-    }
-
-    /// Does the same as [`DepacketizingBuffer::pop`], and writes to the caller's memory, which can be reused. If it returns a
-    /// unit, `bytes` holds the bytes of the unit and `metas` the metadata of its packets in order of their numbers; earlier
-    /// contents are replaced. In every other case the contents of both are unspecified. Allocates only if the capacity of
-    /// `bytes` or `metas` is too small.
-    pub fn pop_into(
-        &mut self,
-        bytes: &mut Vec<u8>,
-        metas: &mut Vec<RtpMeta>,
-    ) -> Option<Result<UnitInfo, PacketError>> {
-        self.pop_counted_into(bytes, metas).0
     }
 
     /// Does the same as [`DepacketizingBuffer::pop`], and writes the unit to memory that can be used again. If it returns

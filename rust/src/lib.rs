@@ -131,6 +131,8 @@ pub mod forward;
 #[doc(hidden)]
 pub mod frame_notes;
 #[doc(hidden)]
+pub mod freezes;
+#[doc(hidden)]
 pub mod history;
 mod index;
 #[doc(hidden)]
@@ -140,9 +142,12 @@ pub mod jitter;
 #[doc(hidden)]
 pub mod keyframes;
 #[doc(hidden)]
+pub mod layers;
+#[doc(hidden)]
 pub mod media;
 #[doc(hidden)]
 pub mod memory;
+mod metadata;
 #[doc(hidden)]
 pub mod payload;
 #[doc(hidden)]
@@ -211,7 +216,7 @@ pub use av1::*;
 #[doc(hidden)]
 pub use bits::{BitRead, BitReader};
 #[doc(hidden)]
-pub use buffer::{PoppedPackets, RtpMeta, UnitInfo};
+pub use buffer::{PoppedPackets, RtpMeta};
 #[doc(hidden)]
 pub use codec::*;
 #[doc(hidden)]

@@ -20,6 +20,8 @@
 //! | [`ccfb`] | congestion control feedback of RFC 8888 |
 //! | [`descriptor`] | the dependency descriptor: which frames a frame of video refers to |
 //! | [`waiting`] | a limit of waiting that follows how late missing packets arrive |
+//! | [`freezes`] | how often and how long a picture stood still, by the rule of the W3C |
+//! | [`layers`] | whether a keyframe begins in a payload, and its temporal layer |
 //! | [`media`] | what frames say: keyframe, size, duration; OBUs, superframes, `av1C`, the Opus header |
 //! | [`codec`], [`interface`], [`buffer`], [`error`] | the payload layer: packetizers, depacketizers, what they say of a packet, the buffer, and their faults |
 //! | [`red`], [`vp8`], [`vp9`], [`av1`], [`amr_wb`], [`tele`], [`plain`] | one format each |
@@ -208,6 +210,24 @@ pub mod waiting {
     pub use crate::waiting::*;
 }
 
+/// How often and how long a picture stood still, by the rule of the W3C.
+pub mod freezes {
+    #[doc(inline)]
+    pub use crate::freezes::{FreezeCounts, Freezes};
+
+    #[doc(hidden)]
+    pub use crate::freezes::*;
+}
+
+/// What a payload says to a server that passes it on.
+pub mod layers {
+    #[doc(inline)]
+    pub use crate::layers::{TemporalLayer, begins_keyframe, temporal_layer};
+
+    #[doc(hidden)]
+    pub use crate::layers::*;
+}
+
 /// Packetizers and depacketizers of your own, beside those of the library.
 pub mod codec {
     #[doc(inline)]
@@ -220,7 +240,7 @@ pub mod codec {
 /// What a popped unit says of itself and of its packets.
 pub mod buffer {
     #[doc(inline)]
-    pub use crate::buffer::{PoppedPackets, RtpMeta, UnitInfo};
+    pub use crate::buffer::{PoppedPackets, RtpMeta};
 
     #[doc(hidden)]
     pub use crate::buffer::*;

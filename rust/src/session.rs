@@ -34,6 +34,7 @@ pub mod stream;
 mod streams;
 mod telephone;
 mod transport;
+mod transports;
 mod waking;
 
 #[doc(inline)]

@@ -12,6 +12,7 @@ mod choice;
 mod datagram;
 mod defaults;
 mod gated;
+mod kinds;
 mod notes;
 #[doc(hidden)]
 pub mod parsed;
@@ -22,6 +23,7 @@ pub mod receiver;
 #[doc(hidden)]
 pub mod reports;
 mod seen_times;
+mod statistics;
 mod storing;
 mod unit_times;
 #[doc(hidden)]

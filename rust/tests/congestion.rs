@@ -1,9 +1,12 @@
 //! Feedback for congestion control: vectors of the drafts and of a peer, and random runs of a log beside a map.
 
+mod random;
+
 use codec_payload::Ticks;
 use codec_payload::congestion::*;
 use codec_payload::feedback::{FeedbackSource, TransportReporter, TransportSettings};
 use codec_payload::rtcp::{CompoundRule, RtcpPacket, read_compound};
+use random::Dice;
 use std::collections::HashMap;
 
 type Fail = Box<dyn std::error::Error>;
@@ -230,18 +233,6 @@ fn feedback_follows_report_and_name() -> Result<(), Fail> {
     Ok(())
 }
 
-/// Random numbers of an xorshift generator.
-struct Random(u64);
-
-impl Random {
-    fn below(&mut self, count: u64) -> u64 {
-        self.0 ^= self.0 << 13;
-        self.0 ^= self.0 >> 7;
-        self.0 ^= self.0 << 17;
-        self.0 % count
-    }
-}
-
 /// Reports all that is unreported, reads each report again, and compares it with the first time of each number.
 fn report_all(
     log: &mut ArrivalLog,
@@ -272,7 +263,7 @@ fn report_all(
 
 #[test]
 fn reports_have_the_first_time_of_each_number() -> Result<(), Fail> {
-    let mut random = Random(88_172_645_463_325_252);
+    let mut random = Dice(88_172_645_463_325_252);
     for run in 0..150 {
         let mut log =
             ArrivalLog::new(1 + random.below(if run % 3 == 0 { 40 } else { 3_000 }) as usize)?;
@@ -308,7 +299,7 @@ fn reports_have_the_first_time_of_each_number() -> Result<(), Fail> {
 
 #[test]
 fn any_bytes_are_read_or_refused() {
-    let mut random = Random(1_234_567);
+    let mut random = Dice(1_234_567);
     for _ in 0..50_000 {
         let bytes: Vec<u8> = (0..random.below(40))
             .map(|_| random.below(256) as u8)

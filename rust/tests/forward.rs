@@ -146,7 +146,7 @@ fn times_go_on_by_the_clock() -> Outcome {
     );
     assert_eq!(time(&out), begun.wrapping_add(960 + 2_000));
     assert_eq!(out[2..4], 65_532_u16.to_be_bytes());
-    // At least one tick, also if the clock stands still; the same source again after `mute`.
+    // At least one tick, also if the clock does not move; the same source again after `mute`.
     forwarder.mute();
     assert_eq!(
         forwarder.write(3_060, &RtpPacket::parse(&other)?, &mut out)?,
@@ -737,7 +737,7 @@ fn left_out_packets_close_up() -> Outcome {
     assert_eq!((answer, number(&bytes)), (Forwarded::Written, 65_531));
     let (answer, bytes) = call(14, true)?;
     assert_eq!((answer, number(&bytes)), (Forwarded::Written, 65_533));
-    // 13 was lost and comes late: padding under its number. 11 comes again, and is wanted now.
+    // 13 was lost and comes late: padding under its number. 11 comes again, and is not left out now.
     let (answer, bytes) = call(13, false)?;
     assert_eq!((answer, number(&bytes)), (Forwarded::Filled, 65_532));
     assert_eq!((bytes[0], bytes.len(), bytes[12]), (0xa0, 13, 1));
@@ -748,7 +748,7 @@ fn left_out_packets_close_up() -> Outcome {
 }
 
 /// Pictures of VP8 that are left out leave no gap in the PictureIDs of the others (RFC 7741, section 4.2), also in packets that are
-/// late or sent again. An id is unused only if all packets of its picture come late.
+/// late or retransmitted. An id is unused only if all packets of its picture come late.
 #[test]
 fn picture_ids_close_up() -> Outcome {
     let mut forwarder = Forwarder::new(settings(Codec::Vp8))?;
@@ -792,7 +792,7 @@ fn picture_ids_close_up() -> Outcome {
         assert_eq!(call(number, false)?.0, Forwarded::LeftOut);
     }
     assert_eq!(call(18, true)?, (Forwarded::Written, 5));
-    // Sent again: the id with which it was sent.
+    // Retransmitted: the id with which it was sent.
     let again = packet_of(9);
     assert!(forwarder.write_again(&RtpPacket::parse(&again)?, &mut out)?);
     assert_eq!(id(&out), 2);

@@ -1,7 +1,11 @@
 //! What packets say of the frames that they begin: payload descriptors of VP9 and dependency descriptors, in any order, as senders
 //! write them and as nobody does.
+
+mod random;
+
 use codec_payload::frame_notes::{FrameNote, FrameNotes};
 use codec_payload::keyframes::{Referring, UnitReferences};
+use random::Dice;
 use std::collections::{BTreeMap, BTreeSet};
 
 /// The first descriptors of a call of Chromium with VP9 in two spatial and three temporal layers, that frames begin with.
@@ -36,7 +40,7 @@ fn packed(fields: &[(u32, u32)]) -> Vec<u8> {
         .collect()
 }
 
-/// A descriptor of a frame with references of its own. Template 0 is of temporal layer 0, template 1 of layer 1.
+/// A descriptor of a frame that lists its references. Template 0 is of temporal layer 0, template 1 of layer 1.
 fn descriptor(template: u32, number: u16, references: &[u16]) -> Vec<u8> {
     let mut fields = vec![(2, 2), (template, 6), (u32::from(number), 16), (0b00010, 5)];
     for &distance in references {
@@ -292,21 +296,9 @@ fn refers_far_within(frames: &[(i64, Vec<u16>, u32)]) -> bool {
     })
 }
 
-/// Numbers that differ from run to run of a test by their seed alone (xorshift).
-struct Random(u64);
-
-impl Random {
-    fn below(&mut self, end: u64) -> u64 {
-        self.0 ^= self.0 << 13;
-        self.0 ^= self.0 >> 7;
-        self.0 ^= self.0 << 17;
-        self.0 % end
-    }
-}
-
 #[test]
 fn units_are_sets_of_frames_and_references() {
-    let mut random = Random(7);
+    let mut random = Dice(7);
     for _ in 0..3_000 {
         let mut notes = FrameNotes::new(1_000);
         insert(&mut notes, 0, described(&with_structure(1_000)));
@@ -344,7 +336,7 @@ fn units_are_sets_of_frames_and_references() {
 
 #[test]
 fn notes_are_a_sorted_map_of_the_highest_numbers() {
-    let mut random = Random(11);
+    let mut random = Dice(11);
     for most in [0, 1, 2, 7, 3_000] {
         let mut notes = FrameNotes::new(most);
         let mut model: BTreeMap<u64, u8> = BTreeMap::new();
@@ -402,7 +394,7 @@ fn a_suspect_packet_has_one_note() {
 
 #[test]
 fn hostile_bytes_are_notes_or_none() {
-    let mut random = Random(3);
+    let mut random = Dice(3);
     let mut notes = FrameNotes::new(50);
     for step in 0..200_000u64 {
         let payload: Vec<u8> = (0..random.below(7))

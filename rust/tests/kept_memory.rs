@@ -131,7 +131,7 @@ fn a_list_of_packets_grows_by_a_factor() -> Result<(), Fail> {
     Ok(())
 }
 
-/// Once the packets have left, their memory is given back but for what a few packets take.
+/// Once the packets have left, their memory is given back, except what a few packets take.
 #[test]
 fn memory_of_packets_is_given_back() -> Result<(), Fail> {
     let mut receiver = receiver()?;

@@ -1,23 +1,14 @@
 //! The missing numbers that a jitter buffer keeps from call to call, beside those that are searched.
 
+mod random;
+
 use codec_payload::buffer::DepacketizingBuffer;
 use codec_payload::codec::CodecDepacketizer;
 use codec_payload::jitter::{JitterBuffer, SequenceNumbers, WaitLimits};
 use codec_payload::*;
+use random::Dice;
 
-struct Dice(u64);
-
-impl Dice {
-    fn below(&mut self, limit: u64) -> u64 {
-        self.0 = self
-            .0
-            .wrapping_mul(6_364_136_223_846_793_005)
-            .wrapping_add(1_442_695_040_888_963_407);
-        (self.0 >> 33) % limit
-    }
-}
-
-/// A jitter buffer of VP8 with small windows, that holds at most so many packets.
+/// A jitter buffer of VP8 with small windows, that holds at most the given number of packets.
 fn jitter_buffer(limit: usize) -> JitterBuffer {
     let depacketizer: CodecDepacketizer = CodecDepacketizer::from_codec(Codec::Vp8).unwrap();
     JitterBuffer::over(

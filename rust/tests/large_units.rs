@@ -1,4 +1,4 @@
-//! A unit with more bytes than the settings allow is an answer of its own: one sender cannot stop the streams of a port.
+//! A unit with more bytes than the settings allow is a separate answer: one sender cannot stop the streams of a port.
 //!
 //! The frames are of VP8: a descriptor of one byte on each packet (RFC 7741, section 4.2), and the header of a keyframe of 16 x 16
 //! (RFC 6386, section 9.1) at the front of each frame.

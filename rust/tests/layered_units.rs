@@ -2,27 +2,18 @@
 //! dependency descriptors (AV1 RTP specification, appendix A). What a receiver says of each unit is compared with the rule over the
 //! whole list of released units.
 
+mod random;
+
 use codec_payload::jitter::Outcome;
 use codec_payload::keyframes::FromKeyframe;
 use codec_payload::stream::{Popped, Receiver, ReceiverSettings, Retransmission};
 use codec_payload::{Codec, CodecDepacketizer, Frequency, MediaTime, PoppedUnit, Ticks};
+use random::Dice;
 
 /// The id of the element with the descriptor.
 const ID: u8 = 5;
 /// A frame each 33 ms.
 const STEP: u64 = 33;
-
-/// Numbers that seem random, by shifts.
-struct Random(u64);
-
-impl Random {
-    fn below(&mut self, bound: u64) -> u64 {
-        self.0 ^= self.0 << 13;
-        self.0 ^= self.0 >> 7;
-        self.0 ^= self.0 << 17;
-        (self.0 >> 11) % bound
-    }
-}
 
 /// A frame of the sender, which refers to the frames at these distances before it.
 #[derive(Clone, Debug)]
@@ -230,7 +221,7 @@ fn time_at(at: usize) -> u32 {
 }
 
 /// All packets of a stream in the order of their numbers, each with its frame.
-fn packets<W: Writes>(frames: &[Frame], start: u16, random: &mut Random) -> Vec<(usize, Packet)> {
+fn packets<W: Writes>(frames: &[Frame], start: u16, random: &mut Dice) -> Vec<(usize, Packet)> {
     let mut packets = vec![];
     for (at, frame) in frames.iter().enumerate() {
         let payloads = W::payloads(at, frame, 1 + random.below(3) as usize);
@@ -276,7 +267,7 @@ struct Said {
 }
 
 /// Pops all that is due, by both ways in turn.
-fn pop_all(receiver: &mut Receiver, now: u64, random: &mut Random, said: &mut Vec<Said>) {
+fn pop_all(receiver: &mut Receiver, now: u64, random: &mut Dice, said: &mut Vec<Said>) {
     let mut memory = PoppedUnit::new();
     let place = |time: MediaTime| (time.numer() / 3_000) as usize;
     loop {
@@ -368,7 +359,7 @@ fn check(said: &[Said], frames: &[Frame]) -> (usize, usize) {
 }
 
 /// A network: of 100 packets it loses so many, and of those it brings back half by retransmission; it repeats and reorders others.
-fn through_network(packets: &[(usize, Packet)], losses: u64, random: &mut Random) -> Vec<Packet> {
+fn through_network(packets: &[(usize, Packet)], losses: u64, random: &mut Dice) -> Vec<Packet> {
     let mut arrived = vec![];
     for (_, packet) in packets {
         let jitter = random.below(25);
@@ -402,7 +393,7 @@ fn through_network(packets: &[(usize, Packet)], losses: u64, random: &mut Random
 }
 
 /// All that a receiver says of a stream, with pops after each datagram.
-fn run(receiver: &mut Receiver, arrived: &[Packet], random: &mut Random) -> Vec<Said> {
+fn run(receiver: &mut Receiver, arrived: &[Packet], random: &mut Dice) -> Vec<Said> {
     let mut said = vec![];
     for packet in arrived {
         receiver.receive(Ticks(packet.at), &packet.bytes).unwrap();
@@ -416,7 +407,7 @@ fn run(receiver: &mut Receiver, arrived: &[Packet], random: &mut Random) -> Vec<
 fn follows_the_rule<W: Writes>() {
     let (mut shown, mut held_back) = (0, 0);
     for seed in 1..120 {
-        let mut random = Random(seed * 7_919);
+        let mut random = Dice(seed * 7_919);
         let losses = [0, 3, 10, 30][seed as usize % 4];
         let frames = three_layers(120, [40, 24, 1_000][seed as usize % 3]);
         let packets = packets::<W>(&frames, 65_500, &mut random);
@@ -445,7 +436,7 @@ fn described_av1_follows_the_rule() {
 /// A receiver that drops units passes on exactly those that another one marks as decodable.
 fn drops_what_cannot_be_shown<W: Writes>() {
     for seed in 1..40 {
-        let mut random = Random(seed * 104_729);
+        let mut random = Dice(seed * 104_729);
         let frames = three_layers(90, 30);
         let packets = packets::<W>(&frames, 7, &mut random);
         let arrived = through_network(&packets, 12, &mut random);
@@ -468,7 +459,7 @@ fn units_that_cannot_be_shown_are_dropped() {
 fn evicts<W: Writes>() {
     let mut evicted = 0;
     for seed in 1..60 {
-        let mut random = Random(seed * 15_485_863);
+        let mut random = Dice(seed * 15_485_863);
         let frames = three_layers(150, 25);
         let packets = packets::<W>(&frames, 65_000, &mut random);
         let arrived = through_network(&packets, 8, &mut random);
@@ -497,7 +488,7 @@ fn evicted_packets_take_nothing_from_others() {
 
 /// Units above the bound are lost, and take their notes with them.
 fn loses_large_units<W: Writes>() {
-    let mut random = Random(99);
+    let mut random = Dice(99);
     let frames = three_layers(60, 60);
     let mut packets = packets::<W>(&frames, 1, &mut random);
     // Frame 9 is of the upper layer, frame 20 of the base layer.
@@ -529,7 +520,7 @@ fn a_large_unit_is_lost() {
 
 /// The sender restarts far away with a keyframe, whose first packet is suspect until the second one confirms the restart.
 fn restarts<W: Writes>() {
-    let mut random = Random(5);
+    let mut random = Dice(5);
     let frames = three_layers(60, 30);
     let mut first = packets::<W>(&frames, 100, &mut random);
     first.retain(|(at, _)| *at < 30);
@@ -560,7 +551,7 @@ fn the_note_of_a_suspect_packet_is_kept() {
 /// The first packet of the keyframe has the only structure, and comes last of all, by retransmission.
 #[test]
 fn a_structure_that_comes_late_counts() {
-    let mut random = Random(3);
+    let mut random = Dice(3);
     let frames = three_layers(12, 12);
     let packets = packets::<DescribedAv1>(&frames, 1, &mut random);
     let mut receiver = receiver::<DescribedAv1>(|_| {});
@@ -582,7 +573,7 @@ fn a_structure_that_comes_late_counts() {
 /// Without the id of the extension each frame follows the one before.
 #[test]
 fn without_an_id_frames_are_a_chain() {
-    let mut random = Random(3);
+    let mut random = Dice(3);
     let frames = three_layers(20, 20);
     let mut packets = packets::<DescribedAv1>(&frames, 1, &mut random);
     packets.retain(|(at, _)| *at != 5);

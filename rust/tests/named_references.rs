@@ -1,8 +1,11 @@
 //! Which units a decoder can show, if they say to which frames they refer: by the P_DIFFs of VP9 (RFC 9628, section 4.2) or by
 //! dependency descriptors (AV1 RTP specification, appendix A). Against the rule over whole lists, and against a model of a decoder.
 
+mod random;
+
 use codec_payload::keyframes::{FromKeyframe, KeyframeGate, Referring, UnitGate, UnitReferences};
 use codec_payload::{Codec, CodecExtra, Vp9CodecExtra};
+use random::Dice;
 
 /// Frame headers of VP9 (VP9 bitstream specification, section 6.2): a keyframe and another frame.
 const KEY: &[u8] = &[0x82, 0x49, 0x83, 0x42, 0, 0, 0xF0, 0, 0xF0, 0];
@@ -450,53 +453,45 @@ fn units_that_nobody_inspects_are_all_passed_on() {
     assert!(gate.release(KEY, true, &unit.extra(), &unit.references()) && gate.is_keyframe());
 }
 
-fn random(seed: &mut u64, below: u64) -> u64 {
-    *seed ^= *seed << 13;
-    *seed ^= *seed >> 7;
-    *seed ^= *seed << 17;
-    *seed % below
-}
-
 /// A unit at random, which may refer to any frame near it.
-fn any_unit(seed: &mut u64, number: u64, key: bool) -> Unit {
-    let frames = 1 + random(seed, 3);
+fn any_unit(dice: &mut Dice, number: u64, key: bool) -> Unit {
+    let frames = 1 + dice.below(3);
     let mut near = |most: u64, from: u64| -> Vec<u64> {
-        (0..random(seed, most))
-            .map(|_| from + random(seed, 6))
+        (0..dice.below(most))
+            .map(|_| from + dice.below(6))
             .collect()
     };
     let refers = near(3, 1).iter().map(|d| number - frames + 1 - d).collect();
     let differences = near(3, 1);
     Unit {
         key,
-        contiguous: random(seed, 10) > 0,
-        described: (random(seed, 20) > 0)
-            .then(|| ((number - frames + 1..=number).collect(), refers)),
-        described_base: random(seed, 2) == 0,
-        id: (random(seed, 60) > 0).then_some(number),
-        tid: [None, Some(0), Some(1), Some(2)][random(seed, 4) as usize],
-        differences: (random(seed, 60) > 0).then_some(differences),
-        cut: random(seed, 40) == 0,
+        contiguous: dice.below(10) > 0,
+        described: (dice.below(20) > 0).then(|| ((number - frames + 1..=number).collect(), refers)),
+        described_base: dice.below(2) == 0,
+        id: (dice.below(60) > 0).then_some(number),
+        tid: [None, Some(0), Some(1), Some(2)][dice.below(4) as usize],
+        differences: (dice.below(60) > 0).then_some(differences),
+        cut: dice.below(40) == 0,
     }
 }
 
 #[test]
 fn random_streams_are_as_the_rule_says() {
-    let mut seed = 0x9E37_79B9_7F4A_7C15;
+    let mut dice = Dice(0x9E37_79B9_7F4A_7C15);
     let (mut all, mut some) = (0, 0);
     for _ in 0..1_000 {
         let mut number = 1_000;
-        let way = random(&mut seed, 3);
+        let way = dice.below(3);
         let events: Vec<Event> = (0..60)
             .map(|at| {
-                match random(&mut seed, 60) {
+                match dice.below(60) {
                     0 => return Event::Refused,
                     1 => return Event::Skipped,
-                    2 => number -= random(&mut seed, 3),
-                    _ => number += 1 + random(&mut seed, 4),
+                    2 => number -= dice.below(3),
+                    _ => number += 1 + dice.below(4),
                 }
-                let key = at == 0 || random(&mut seed, 25) == 0;
-                let mut unit = any_unit(&mut seed, number, key);
+                let key = at == 0 || dice.below(25) == 0;
+                let mut unit = any_unit(&mut dice, number, key);
                 if way == 1 && key || way == 2 {
                     unit.described = None;
                 }
@@ -519,24 +514,24 @@ struct Frame {
 }
 
 /// An encoder that chooses spatial layers and references at random. Each unit says what its frames read.
-fn encode(seed: &mut u64, count: usize) -> Vec<(Unit, Vec<Frame>)> {
+fn encode(dice: &mut Dice, count: usize) -> Vec<(Unit, Vec<Frame>)> {
     let mut holds = [0; 8];
     let mut number = 5_000;
     let mut units = Vec::new();
     for at in 0..count {
-        let key = at == 0 || random(seed, 50) == 0;
+        let key = at == 0 || dice.below(50) == 0;
         let first = number + 1;
         let mut frames = Vec::new();
         let mut refers = Vec::new();
-        for layer in 0..1 + random(seed, 3) {
+        for layer in 0..1 + dice.below(3) {
             number += 1;
             let reads: Vec<usize> = (0..8)
                 .filter(|&it| {
-                    random(seed, 3) == 0 && (!key || holds[it] >= first) && number - holds[it] < 120
+                    dice.below(3) == 0 && (!key || holds[it] >= first) && number - holds[it] < 120
                 })
                 .collect();
             let all = key && layer == 0;
-            let writes: Vec<usize> = (0..8).filter(|_| all || random(seed, 5) == 0).collect();
+            let writes: Vec<usize> = (0..8).filter(|_| all || dice.below(5) == 0).collect();
             refers.extend(reads.iter().map(|&it| holds[it]).filter(|&it| it < first));
             frames.push(Frame {
                 number,
@@ -552,7 +547,7 @@ fn encode(seed: &mut u64, count: usize) -> Vec<(Unit, Vec<Frame>)> {
             key,
             contiguous: true,
             described: Some(((first..=number).collect(), refers)),
-            described_base: random(seed, 2) == 0,
+            described_base: dice.below(2) == 0,
             ..Unit::default()
         };
         units.push((unit, frames));
@@ -562,14 +557,14 @@ fn encode(seed: &mut u64, count: usize) -> Vec<(Unit, Vec<Frame>)> {
 
 #[test]
 fn what_is_decodable_is_the_picture_of_the_encoder() {
-    let mut seed = 0x2545_F491_4F6C_DD1D;
+    let mut dice = Dice(0x2545_F491_4F6C_DD1D);
     let (mut released, mut shown) = (0, 0);
     for round in 0..3_000 {
         let loss = [0, 3, 10, 30][round % 4];
         let mut gate = KeyframeGate::new(Codec::Vp9);
         let mut decoder = [0; 8];
-        for (unit, frames) in encode(&mut seed, 60) {
-            if random(&mut seed, 100) < loss {
+        for (unit, frames) in encode(&mut dice, 60) {
+            if dice.below(100) < loss {
                 continue;
             }
             released += 1;

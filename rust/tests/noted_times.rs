@@ -1,22 +1,12 @@
 //! The noted RTP times of a jitter buffer beside a map of all of them: a packet is suspect exactly if its number was noted with
 //! another time, or is below the first one with a time that is not from 5 seconds before the first one's up to that time.
 
+mod random;
+
 use codec_payload::jitter::{JitterBuffer, Outcome, SequenceNumbers, WaitLimits};
 use codec_payload::*;
+use random::Dice;
 use std::collections::BTreeMap;
-
-/// Numbers that look random.
-struct Dice(u64);
-
-impl Dice {
-    fn below(&mut self, limit: u64) -> u64 {
-        self.0 = self
-            .0
-            .wrapping_mul(6_364_136_223_846_793_005)
-            .wrapping_add(1_442_695_040_888_963_407);
-        (self.0 >> 33) % limit
-    }
-}
 
 /// The noted times by index, of which the latest `places` count.
 struct Noted {

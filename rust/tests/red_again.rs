@@ -1,5 +1,7 @@
 //! Retransmissions of RED packets (RFC 4588 over RFC 2198): the original number, then the RED payload.
 
+mod random;
+
 use codec_payload::jitter::Outcome;
 use codec_payload::red::RedSender;
 use codec_payload::sdp;
@@ -7,6 +9,7 @@ use codec_payload::stream::{
     ReceiveError, Receiver, ReceiverSettings, RedSettings, Retransmission,
 };
 use codec_payload::*;
+use random::Dice;
 use std::collections::BTreeMap;
 use std::error::Error;
 
@@ -225,21 +228,21 @@ fn only_if_the_settings_name_it() -> Result<(), Fail> {
 /// Any bytes after the header: each datagram is counted once.
 #[test]
 fn any_bytes() -> Result<(), Fail> {
-    let mut random = Random(5);
+    let mut dice = Dice(5);
     let mut receiver = receiver_by(settings())?;
     for now in 0..40_000_u64 {
-        let count = random.below(12);
+        let count = dice.below(12);
         let payload: Vec<u8> = (0..count)
             .map(|at| match at {
                 0 => 0,
-                2 if random.below(2) == 0 => OPUS,
-                2 if random.below(2) == 0 => 0x80 | OPUS,
-                _ => random.below(256) as u8,
+                2 if dice.below(2) == 0 => OPUS,
+                2 if dice.below(2) == 0 => 0x80 | OPUS,
+                _ => dice.below(256) as u8,
             })
             .collect();
-        let time = random.below(64) as u32 * STEP;
-        let number = random.below(256) as u16;
-        let bytes = match random.below(4) {
+        let time = dice.below(64) as u32 * STEP;
+        let number = dice.below(256) as u16;
+        let bytes = match dice.below(4) {
             0 => sent(number, time, &payload),
             _ => datagram(RED_AGAIN, REPAIR, number, time, &payload),
         };
@@ -260,34 +263,21 @@ fn any_bytes() -> Result<(), Fail> {
     Ok(())
 }
 
-/// Random numbers (SplitMix64).
-struct Random(u64);
-
-impl Random {
-    fn below(&mut self, limit: u64) -> u64 {
-        self.0 = self.0.wrapping_add(0x9e37_79b9_7f4a_7c15);
-        let mut bits = self.0;
-        bits = (bits ^ bits >> 30).wrapping_mul(0xbf58_476d_1ce4_e5b9);
-        bits = (bits ^ bits >> 27).wrapping_mul(0x94d0_49bb_1331_11eb);
-        (bits ^ bits >> 31) % limit
-    }
-}
-
 /// The released frames in order, with 40 % of the datagrams lost. Each lost datagram is retransmitted 40 ms later, and the given share
 /// of the retransmissions is lost too.
 fn run(distances: &[u32], lost_again: u64, seed: u64) -> Result<Vec<u32>, Fail> {
-    let (mut random, mut red) = (Random(seed), red_sender(distances));
+    let (mut dice, mut red) = (Dice(seed), red_sender(distances));
     let mut arriving: BTreeMap<u64, Vec<Vec<u8>>> = BTreeMap::new();
     for frame in 0..3_000_u32 {
         let (at, time, number) = (u64::from(frame) * 20, frame * STEP, frame as u16);
         let payload = red.wrap(frame.to_be_bytes().to_vec(), time, 1_200)?;
-        if random.below(1_000) >= 400 || frame == 0 {
+        if dice.below(1_000) >= 400 || frame == 0 {
             arriving
                 .entry(at)
                 .or_default()
                 .push(sent(number, time, &payload));
-        } else if random.below(1_000) >= lost_again {
-            let late = 40 + random.below(20);
+        } else if dice.below(1_000) >= lost_again {
+            let late = 40 + dice.below(20);
             arriving
                 .entry(at + late)
                 .or_default()

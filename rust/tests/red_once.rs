@@ -1,10 +1,13 @@
 //! RED with padding between its packets: no frame is released twice (RFC 2198, section 3). Chromium pads Opus under the payload
 //! type of RED.
 
+mod random;
+
 use codec_payload::jitter::Outcome;
 use codec_payload::red::RedSender;
 use codec_payload::stream::{ReceiveError, Receiver, ReceiverSettings, RedSettings};
 use codec_payload::*;
+use random::Dice;
 use std::collections::BTreeMap;
 use std::error::Error;
 
@@ -113,22 +116,9 @@ fn late_packet_of_a_block() -> Result<(), Box<dyn Error>> {
     Ok(())
 }
 
-/// Random numbers (SplitMix64).
-struct Random(u64);
-
-impl Random {
-    /// True in the given number of 1,000 calls.
-    fn is_one_of(&mut self, thousandths: u64) -> bool {
-        self.below(1_000) < thousandths
-    }
-
-    fn below(&mut self, limit: u64) -> u64 {
-        self.0 = self.0.wrapping_add(0x9e37_79b9_7f4a_7c15);
-        let mut bits = self.0;
-        bits = (bits ^ bits >> 30).wrapping_mul(0xbf58_476d_1ce4_e5b9);
-        bits = (bits ^ bits >> 27).wrapping_mul(0x94d0_49bb_1331_11eb);
-        (bits ^ bits >> 31) % limit
-    }
+/// True in the given number of 1,000 calls.
+fn is_one_of(dice: &mut Dice, thousandths: u64) -> bool {
+    dice.below(1_000) < thousandths
 }
 
 #[derive(Clone, Copy, Debug)]
@@ -146,7 +136,7 @@ const FRAMES: u32 = 6_000;
 
 /// How many frames were sent and arrived, by themselves or in a block; how many were released; and how many of these twice.
 fn run(network: Network, seed: u64) -> Result<(usize, usize, usize), Box<dyn Error>> {
-    let (mut random, mut red) = (Random(seed), red_sender(network.distances));
+    let (mut dice, mut red) = (Dice(seed), red_sender(network.distances));
     let mut arriving: BTreeMap<u64, Vec<Vec<u8>>> = BTreeMap::new();
     let mut number = 0_u16;
     for frame in 0..FRAMES {
@@ -155,16 +145,16 @@ fn run(network: Network, seed: u64) -> Result<(usize, usize, usize), Box<dyn Err
         let mut sent = vec![datagram(RED, number, time, &payload)];
         number = number.wrapping_add(1);
         let (frames, most) = network.padding;
-        if random.below(frames) == 0 {
-            for _ in 0..1 + random.below(most) {
+        if dice.below(frames) == 0 {
+            for _ in 0..1 + dice.below(most) {
                 sent.push(padding(number, time));
                 number = number.wrapping_add(1);
             }
         }
         for datagram in sent {
-            let lost = random.is_one_of(network.lost);
-            let late = if random.is_one_of(network.late) {
-                random.below(90)
+            let lost = is_one_of(&mut dice, network.lost);
+            let late = if is_one_of(&mut dice, network.late) {
+                dice.below(90)
             } else {
                 0
             };

@@ -1,6 +1,9 @@
 //! Which pictures a decoder can show, if each names those to which it refers, against sets of numbers.
 
+mod random;
+
 use codec_payload::parts::keyframes::references::{References, Referring};
+use random::Dice;
 use std::collections::BTreeSet;
 
 /// A unit of one frame.
@@ -84,30 +87,23 @@ fn all_frames_of_a_unit_count_if_it_can_be_shown() {
     assert!(references.release(picture(111, &[7, 8, 9, 10])));
 }
 
-fn random(seed: &mut u64, below: u64) -> u64 {
-    *seed ^= *seed << 13;
-    *seed ^= *seed >> 7;
-    *seed ^= *seed << 17;
-    *seed % below
-}
-
 #[test]
 fn random_streams_are_as_the_sets_say() {
-    let mut seed = 0x9E37_79B9_7F4A_7C15;
+    let mut dice = Dice(0x9E37_79B9_7F4A_7C15);
     let (mut released, mut all) = (0, 0);
     for round in 0..3_000_u64 {
-        let mut number = random(&mut seed, 1_000);
+        let mut number = dice.below(1_000);
         let mut references = References::after_keyframe(picture(number, &[]));
         let key = number;
         let mut shown = BTreeSet::from([key]);
         for _ in 0..200 {
-            number += 1 + if random(&mut seed, 100) < round % 4 * 10 {
-                random(&mut seed, 140)
+            number += 1 + if dice.below(100) < round % 4 * 10 {
+                dice.below(140)
             } else {
                 0
             };
-            let distances: Vec<u32> = (0..random(&mut seed, 3))
-                .map(|_| 1 + random(&mut seed, [3, 20, 127][round as usize % 3]) as u32)
+            let distances: Vec<u32> = (0..dice.below(3))
+                .map(|_| 1 + dice.below([3, 20, 127][round as usize % 3]) as u32)
                 .collect();
             let wanted = distances.iter().all(|&d| {
                 number

@@ -238,10 +238,13 @@ fn queues_that_grow_and_shrink() {
     assert!(refused >= 2, "{refused}");
     // Queues give memory back while units leave; refusing that changes nothing.
     let mut buffer = filled(Codec::Opus, &many);
-    let mut unit = (Vec::with_capacity(64), Vec::with_capacity(64));
+    let mut unit = PoppedUnit::new();
+    // The first unit finds memory for all, which are of one size.
+    let first = buffer.pop_unit(&mut unit);
+    assert!(matches!(first, Some(Ok(()))));
     LEFT.set(0);
-    let mut popped = 0;
-    while let Some(answer) = buffer.pop_into(&mut unit.0, &mut unit.1) {
+    let mut popped = 1;
+    while let Some(answer) = buffer.pop_unit(&mut unit) {
         popped += usize::from(answer.is_ok());
     }
     LEFT.set(usize::MAX);

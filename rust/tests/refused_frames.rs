@@ -1,4 +1,4 @@
-//! A frame that the depacketizer refuses is an answer of its own: the stream continues, and `Err` is out of memory alone.
+//! A frame that the depacketizer refuses is a separate answer: the stream continues, and `Err` is out of memory alone.
 //!
 //! The frame is one of VP8 that ends in its payload descriptor (RFC 7741, section 4.2: X and L are set, and TL0PICIDX is the last
 //! byte). It comes under the SSRC and the next number of the stream, as any peer can send it.

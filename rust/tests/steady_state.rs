@@ -108,10 +108,6 @@ fn pops() {
         );
         buffer.push(meta, vec![7; 100]).unwrap();
     }
-    let (mut bytes, mut metas) = (Vec::new(), Vec::new());
-    buffer.pop_into(&mut bytes, &mut metas).unwrap().unwrap();
-    let again = allocations(|| assert!(buffer.pop_into(&mut bytes, &mut metas).unwrap().is_ok()));
-    assert_eq!((again, bytes.len()), (0, 100));
     let mut unit = PoppedUnit::new();
     buffer.pop_unit(&mut unit).unwrap().unwrap();
     let again = allocations(|| assert!(buffer.pop_unit(&mut unit).unwrap().is_ok()));

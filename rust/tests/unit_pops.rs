@@ -1,20 +1,11 @@
 //! `pop_unit` of a receiver beside `pop`: two receivers get the same datagrams, and must return the same units.
 
+mod random;
+
 use codec_payload::keyframes::FromKeyframe;
 use codec_payload::stream::{Popped, Receiver, ReceiverSettings};
 use codec_payload::{Codec, CodecDepacketizer, Frequency, PoppedUnit, Ticks};
-
-/// Numbers that seem random, by shifts.
-struct Random(u64);
-
-impl Random {
-    fn below(&mut self, bound: u64) -> u64 {
-        self.0 ^= self.0 << 13;
-        self.0 ^= self.0 >> 7;
-        self.0 ^= self.0 << 17;
-        (self.0 >> 11) % bound
-    }
-}
+use random::Dice;
 
 fn receiver(codec: Codec, from_keyframe: FromKeyframe) -> Receiver {
     let mut settings = ReceiverSettings::live_video(96, Frequency::NINETY_KHZ);
@@ -25,7 +16,7 @@ fn receiver(codec: Codec, from_keyframe: FromKeyframe) -> Receiver {
 }
 
 /// The datagram with this number. A frame has three packets; each tenth frame of VP8 is a keyframe. Some payloads are cut off.
-fn datagram(random: &mut Random, codec: Codec, number: u16) -> Vec<u8> {
+fn datagram(random: &mut Dice, codec: Codec, number: u16) -> Vec<u8> {
     let (frame, place) = (u32::from(number) / 3, number % 3);
     let video = codec == Codec::Vp8;
     let time = if video { frame } else { u32::from(number) } * 3_000;
@@ -95,7 +86,7 @@ fn pop_all(pair: &mut [Receiver; 2], unit: &mut PoppedUnit, now: Ticks) -> u64 {
     }
 }
 
-fn compare(random: &mut Random, codec: Codec, from_keyframe: FromKeyframe) -> u64 {
+fn compare(random: &mut Dice, codec: Codec, from_keyframe: FromKeyframe) -> u64 {
     let mut pair = [
         receiver(codec, from_keyframe),
         receiver(codec, from_keyframe),
@@ -121,7 +112,7 @@ fn compare(random: &mut Random, codec: Codec, from_keyframe: FromKeyframe) -> u6
 
 #[test]
 fn units_are_the_same() {
-    let mut random = Random(0x2545_F491_4F6C_DD1D);
+    let mut random = Dice(0x2545_F491_4F6C_DD1D);
     let mut units = 0;
     for _ in 0..20 {
         for codec in [Codec::Opus, Codec::Vp8] {

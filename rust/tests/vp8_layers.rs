@@ -1,7 +1,10 @@
 //! Which units of VP8 with temporal layers a decoder can show (RFC 7741, section 4.2), against a model of the decoder.
 
+mod random;
+
 use codec_payload::keyframes::{KeyframeGate, UnitReferences};
 use codec_payload::{Codec, CodecExtra, Vp8CodecExtra};
+use random::Dice;
 
 /// Frame headers (RFC 6386, section 9.1): a keyframe and another frame.
 const KEY: &[u8] = &[0x10, 0, 0, 0x9D, 0x01, 0x2A, 0x10, 0, 0x10, 0];
@@ -198,13 +201,6 @@ fn ids_at_the_end_of_their_range_overflow_nothing() {
     }
 }
 
-fn random(seed: &mut u64, below: u64) -> u64 {
-    *seed ^= *seed << 13;
-    *seed ^= *seed >> 7;
-    *seed ^= *seed << 17;
-    *seed % below
-}
-
 /// What a reference buffer of VP8 holds: the place of a picture, and its layer. There are three: last, golden, altref.
 type Buffers = [(usize, u8); 3];
 
@@ -220,15 +216,15 @@ struct Frame {
 /// An encoder that chooses layers, references and bits at random, as RFC 7741 allows: a picture refers to no higher layer; with Y to
 /// the latest picture of the base layer alone; and after a picture of a layer with Y no picture refers to one of that layer before
 /// the picture of the base layer of that one. With N it writes no buffer.
-fn encode(seed: &mut u64, count: usize) -> Vec<Frame> {
+fn encode(dice: &mut Dice, count: usize) -> Vec<Frame> {
     let mut frames: Vec<Frame> = Vec::new();
     let mut holds: Buffers = [(0, 0); 3];
-    let (mut base, mut base_at) = (random(seed, 200), 0);
+    let (mut base, mut base_at) = (dice.below(200), 0);
     let mut first_of = [0; 4];
     for at in 0..count {
-        let key = at == 0 || random(seed, 60) == 0;
-        let layer = if key { 0 } else { random(seed, 4) as u8 };
-        let sync = layer > 0 && random(seed, 3) == 0;
+        let key = at == 0 || dice.below(60) == 0;
+        let layer = if key { 0 } else { dice.below(4) as u8 };
+        let sync = layer > 0 && dice.below(3) == 0;
         if layer == 0 {
             base += 1;
             base_at = at;
@@ -248,17 +244,17 @@ fn encode(seed: &mut u64, count: usize) -> Vec<Frame> {
                 } else {
                     of <= layer && (of == 0 || from >= first_of[usize::from(of)])
                 };
-                !key && allowed && random(seed, 4) > 0
+                !key && allowed && dice.below(4) > 0
             })
             .collect();
-        let writes: Vec<usize> = (0..3).filter(|_| key || random(seed, 3) == 0).collect();
+        let writes: Vec<usize> = (0..3).filter(|_| key || dice.below(3) == 0).collect();
         frames.push(Frame {
             picture: Picture {
                 id: 1_000 + at as u64,
                 base,
                 layer,
                 sync,
-                discardable: writes.is_empty() && layer > 0 && random(seed, 2) == 0,
+                discardable: writes.is_empty() && layer > 0 && dice.below(2) == 0,
                 key,
             },
             reads,
@@ -273,13 +269,13 @@ fn encode(seed: &mut u64, count: usize) -> Vec<Frame> {
 }
 
 /// Counts of units: released; reported as decodable; and of these above the base layer without Y.
-fn check(seed: &mut u64, loss: u64) -> (u64, u64, u64) {
-    let frames = encode(seed, 80);
+fn check(dice: &mut Dice, loss: u64) -> (u64, u64, u64) {
+    let frames = encode(dice, 80);
     let mut gate = KeyframeGate::new(Codec::Vp8);
     let mut decoder: [usize; 3] = [usize::MAX; 3];
     let mut counts = (0, 0, 0);
     for (at, frame) in frames.iter().enumerate() {
-        if random(seed, 100) < loss {
+        if dice.below(100) < loss {
             continue;
         }
         counts.0 += 1;
@@ -302,10 +298,10 @@ fn check(seed: &mut u64, loss: u64) -> (u64, u64, u64) {
 
 #[test]
 fn what_is_decodable_is_the_picture_of_the_encoder() {
-    let mut seed = 0x9E37_79B9_7F4A_7C15;
+    let mut dice = Dice(0x9E37_79B9_7F4A_7C15);
     let mut all = (0, 0, 0);
     for round in 0..8_000 {
-        let counts = check(&mut seed, [0, 3, 10, 30][round % 4]);
+        let counts = check(&mut dice, [0, 3, 10, 30][round % 4]);
         all = (all.0 + counts.0, all.1 + counts.1, all.2 + counts.2);
     }
     println!("{all:?}");

@@ -6,8 +6,9 @@
  *   sessions call SDP PCAP            a captured call, each datagram at its time, by the session description of its sender; requests
  *                                     are made, and go nowhere
  *
- * It prints how many datagrams the function `counted` had, inside which tools/measure/receiving.py counts instructions by callgrind,
- * and but for a call the nanoseconds of processor time of a datagram, in the least of the rounds through all streams or of COUNT. */
+ * It prints how many datagrams the function `counted` had, inside which tools/measure/receiving.py counts instructions by callgrind.
+ * Except for `call` it also prints the nanoseconds of processor time of a datagram, in the least of the rounds through all streams or
+ * of COUNT. */
 #define _POSIX_C_SOURCE 199309L
 #include "codec_payload.h"
 #include "codec_payload_sdp.h"

@@ -15,6 +15,7 @@ import output
 import programs
 from erasing import drop_theorems, erase
 from heads import drop_passed_on, flatten, head_files, passed_on_modules, root_modules
+from homes import bring_home, narrow
 from known import Known
 from layout import FACADE, FLAT, LIBRARY, NOT_HERE, PLACES, PROGRAM, PROGRAM_LIBRARY, RENAMED_MODULES
 from source import File
@@ -69,10 +70,12 @@ def generated_files(repository):
     library, others = read_all(repository, known)
     passed_on = passed_on_modules(library)
     del library[FACADE, "lib.rt"]
+    narrow(library)
     drop_theorems(library)
     for (_, rel), f in library.items():
         if rel == "lib.rt":
             drop_passed_on(f)
+    bring_home(library, passed_on)
     for f in [*library.values(), *others.values()]:
         known.read(f)
     crate, lines = output.Output(repository, "rust"), output.Output(repository, "tools/lines")

@@ -1,7 +1,7 @@
 """The files that name the modules of a crate: hidden modules, and what they hold in the module above them."""
 import re
 
-from layout import KEPT_MODULES, LIBRARY, PARTLY_USED_MODULES, PLACES, RENAMED_MODULES, UNDOCUMENTED_MODULES, UNNAMED_MODULES
+from layout import HOMES, KEPT_MODULES, LIBRARY, PARTLY_USED_MODULES, PLACES, RENAMED_MODULES, UNDOCUMENTED_MODULES, UNNAMED_MODULES
 from source import drop_item
 from tokens import OPEN, close, elements, joined, plain, tokens
 
@@ -144,6 +144,6 @@ def root_modules(sources):
     """The modules that `lib.rs` has to name."""
     found = {path.split("::")[0] for path in PLACES.values()}
     for crate in LIBRARY:
-        if crate not in PLACES:
+        if crate not in PLACES and crate not in HOMES:
             found |= set(re.findall(r"\bmod (\w+);", joined(sources[crate, "lib.rt"].ts)))
     return found

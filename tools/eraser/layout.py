@@ -1,21 +1,46 @@
 """Where the modules of the proved crates go in the one crate of plain Rust."""
 
 # The crates of the library, each after the crates that it uses.
-LIBRARY = ["base", "audio", "vp8", "vp9", "av1", "red", "rtp", "sending_red", "rtcp", "feedback_congestion", "sending_history", "sending_forward", "syntax", "vpx", "descriptor", "media", "keyframes", "feedback_requests", "feedback", "feedback_transport", "feedback_ccfb", "feedback_wait", "index", "queue", "references", "codec", "buffer", "jitter", "receiver", "session", "sending",
+LIBRARY = ["base", "audio", "vp8", "vp9", "av1", "red", "rtp", "sending_red", "rtcp", "feedback_congestion", "sending_history", "sending_forward", "syntax", "vpx", "descriptor", "media", "keyframes", "feedback_requests", "feedback", "feedback_transport", "feedback_ccfb", "feedback_wait", "feedback_freezes", "layers", "index", "queue", "references", "codec", "contiguity", "metadata", "buffer", "numbers", "jitter", "datagrams", "receiver", "session_formats", "session_requests", "session", "sending",
            "payloader", "buffer_runs", "datagram_runs", "forward_runs", "session_runs", "server_runs"]
 # The library for C.
 NOT_HERE = {"handle", "c"}
 # Names the users' modules of the library again.
 FACADE = "core"
 # The module below which a crate's modules go. Modules of all other crates go to the root.
-PLACES = {"index": "index", "queue": "queue", "syntax": "syntax", "rtp": "rtp", "rtcp": "rtcp", "feedback_congestion": "congestion", "vpx": "media::vpx", "descriptor": "descriptor", "media": "media", "keyframes": "keyframes", "references": "frame_notes", "sending_history": "history", "sending_forward": "forward", "feedback_requests": "requests", "feedback": "feedback", "feedback_transport": "transport", "feedback_ccfb": "ccfb", "feedback_wait": "waiting", "jitter": "jitter", "receiver": "stream", "session": "session", "payloader": "payload",
+PLACES = {"index": "index", "metadata": "metadata", "queue": "queue", "syntax": "syntax", "rtp": "rtp", "rtcp": "rtcp", "feedback_congestion": "congestion", "vpx": "media::vpx", "descriptor": "descriptor", "media": "media", "keyframes": "keyframes", "references": "frame_notes", "sending_history": "history", "sending_forward": "forward", "feedback_requests": "requests", "feedback": "feedback", "feedback_transport": "transport", "feedback_ccfb": "ccfb", "feedback_wait": "waiting", "feedback_freezes": "freezes", "layers": "layers", "jitter": "jitter", "receiver": "stream", "session": "session", "payloader": "payload",
           "buffer_runs": "schedule", "datagram_runs": "schedule::datagrams", "forward_runs": "schedule::forwarded", "session_runs": "session::runs", "server_runs": "schedule::served"}
+# Crates below others whose modules stand among those of a crate above: for each module, that crate.
+HOMES = {"numbers": {"noted_times": "jitter", "numbers": "jitter", "seen_times": "receiver", "statistics": "receiver", "windows": "receiver"},
+         "datagrams": {"choice": "receiver", "kinds": "receiver", "parsed": "receiver"},
+         "session_formats": {"checks": "session", "formats": "session", "names": "session", "sort": "session"},
+         "session_requests": {"late": "session", "named": "session", "requests": "session", "transports": "session"}}
+# Names of lower crates that are public for the crates above alone. In the one crate no user sees them.
+WITHIN_CRATE = {
+    ("metadata", "known.rt"): "are_plain drop_rare is_plain last_sender_info marker number plain_meta received seq_no take time values",
+    ("contiguity", "contiguity.rt"): "of",
+    ("numbers", "numbers.rt"): "answer_anew answer_for backward kept_number lowest_with number_within take without_restart",
+    ("numbers", "noted_times.rt"): "NotedTimes contradicts has_former is_of_former is_soon_after is_untimely make_room new note sender set_former",
+    ("numbers", "seen_times.rt"): "LazySeenTimes SeenTime SeenTimes forget_if has_block is_block is_seen none note put take time",
+    ("numbers", "statistics.rt"): "anew begin_if transit_change",
+    ("datagrams", "kinds.rt"): "Datagram Malformation RedPacket RedStream SentAgain again_kind header is_among is_other is_padding_only is_sent_again media_kind number older payload primary receiver red_again_kind red_again_of red_kind under",
+    ("datagrams", "choice.rt"): "Candidate Choice Origin Verdict bytes candidates forget is_silent keep note note_at number over received ssrc verdict",
+    ("session_formats", "formats.rt"): "LONGEST_NAME Role is_telephone is_video limits receiver resends retransmission_for role stream_of",
+    ("session_formats", "names.rt"): "are_of_one note",
+    ("session_formats", "checks.rt"): "fault",
+    ("session_formats", "sort.rt"): "SortedPacket sort",
+    ("session_requests", "requests.rt"): "Feedback answer_if ask_keyframe begin has_requested hear original_number request_counts requests_due rest_time round_trip source_for take_due wait_by",
+    ("session_requests", "named.rt"): "NamedReceiver begin finish inner pop_unit receive report set_retransmission set_wait_limits",
+    ("session_requests", "late.rt"): "follow late_for limit_by",
+    ("session_requests", "transports.rt"): "note reporter_for restart take_due time_of transport_deadline",
+}
 # Modules with another name in the one crate.
-RENAMED_MODULES = {("rtp", "rtp"): "packet", ("jitter", "jitter"): "jitter_buffer", ("session", "session"): "sessions"}
+RENAMED_MODULES = {("rtp", "rtp"): "packet", ("jitter", "jitter"): "jitter_buffer", ("session", "session"): "sessions",
+                   ("feedback_freezes", "freezes"): "counter", ("layers", "layers"): "reading"}
 # Types with another name in the one crate, since another type has theirs: crate, module, name.
 RENAMED_TYPES = {("receiver", "receiver", "Settings"): "ReceiverSettings"}
 # Crates whose public modules are hidden: what they hold is public in the module above them.
-FLAT = {"rtp", "rtcp", "feedback_congestion", "sending_history", "sending_forward", "vpx", "descriptor", "media", "keyframes", "references", "feedback_requests", "feedback", "feedback_transport", "feedback_ccfb", "feedback_wait", "jitter", "receiver", "session", "datagram_runs", "forward_runs", "session_runs", "server_runs"}
+FLAT = {"rtp", "rtcp", "feedback_congestion", "sending_history", "sending_forward", "vpx", "descriptor", "media", "keyframes", "references", "feedback_requests", "feedback", "feedback_transport", "feedback_ccfb", "feedback_wait", "feedback_freezes", "layers", "jitter", "receiver", "session", "datagram_runs", "forward_runs", "session_runs", "server_runs"}
 # Modules that are left out of the documentation of the one crate: runs are there for its tests alone.
 UNDOCUMENTED_MODULES = {"session::runs"}
 # Public functions that are left out of it too, since only other modules and ports of `str0m` call them.
@@ -25,7 +50,7 @@ UNDOCUMENTED_FUNCTIONS = {"abs_capture_time_of", "all_fit", "append_report", "au
 # Modules of such crates that stay.
 KEPT_MODULES = {("media", "amr_wb"), ("media", "av1"), ("media", "opus"), ("vpx", "vp8"), ("vpx", "vp9")}
 # Modules of such crates whose names are for the crate alone.
-UNNAMED_MODULES = {("index", "ssrcs"), ("index", "times"), ("queue", "search"), ("queue", "tiers"), ("syntax", "fields"), ("syntax", "reader"), ("vpx", "fields"), ("descriptor", "fields"), ("rtp", "writing")}
+UNNAMED_MODULES = {("index", "ssrcs"), ("index", "times"), ("metadata", "known"), ("metadata", "meta"), ("metadata", "packed_header"), ("queue", "search"), ("queue", "tiers"), ("syntax", "fields"), ("syntax", "reader"), ("vpx", "fields"), ("descriptor", "fields"), ("rtp", "writing")}
 # Modules with functions that only callers in Rattle need.
 PARTLY_USED_MODULES = {("index", "times")}
 
@@ -46,6 +71,7 @@ CONSTANT_FUNCTIONS = {"constants_of_wire", "constants_of_red", "default_of_exten
 def place(crate, module, passed_on):
     """The path of a crate's module below the root. `passed_on` has the modules that a crate names again for another."""
     crate = passed_on.get((crate, module), crate)
+    crate = HOMES.get(crate, {}).get(module, crate)
     if crate == FACADE:
         return module
     name = RENAMED_MODULES.get((crate, module), module)

@@ -73,7 +73,7 @@ static bool begin(peer *it) {
     return false;
 }
 
-/* Sends what OpenSSL wrote, each record in a datagram of its own: memory joins the records of a flight. */
+/* Sends what OpenSSL wrote, each record in a separate datagram: memory joins the records of a flight. */
 static void send_records(peer *it) {
     BIO *out = SSL_get_wbio(it->ssl);
     uint8_t *bytes = NULL;

@@ -12,7 +12,7 @@
 
 enum {
     BATCH = 64,          /* datagrams a call of the system */
-    ROUNDS = 16,         /* such calls before others have their turn */
+    ROUNDS = 16,         /* such calls, then others are served */
     MOST_DELAYED = 8192, /* datagrams; more are lost */
     OVERTAKEN = 30       /* ms that a datagram is behind its place */
 };

@@ -114,7 +114,7 @@ static void forward_red(peer *it, const cpay_rtp_info *info, const uint8_t *byte
     }
 }
 
-/* Another SSRC has numbers of its own, and so a store of its own. */
+/* Another SSRC has other numbers, and so another store. */
 static bool begin_source(source *to, uint32_t ssrc) {
     cpay_history_settings settings = {.limit = MOST_KEPT};
     if (to->arrived && to->ssrc == ssrc) return true;

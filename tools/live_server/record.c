@@ -50,7 +50,7 @@ recording *record_new(const char *name, const agreed media[KINDS]) {
     for (int kind = 0; kind < KINDS; kind++) it->use[kind] = codec_use_of(media[kind].name, 0, 0);
     it->track[AUDIO] = media[AUDIO].used ? 0 : -1;
     it->track[VIDEO] = media[VIDEO].used ? media[AUDIO].used : -1;
-    av_log_set_level(AV_LOG_ERROR); /* it tells of each cluster of a file otherwise */
+    av_log_set_level(AV_LOG_ERROR); /* else it reports each cluster of a file */
     it->file = writer_new(path, (size_t)media[AUDIO].used + media[VIDEO].used);
     return it;
 }

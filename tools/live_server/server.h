@@ -165,7 +165,7 @@ void viewer_tick(peer *it, uint64_t now);
 void viewer_stats(peer *it, FILE *to);
 void viewer_free(peer *it);
 
-/* rtcp.c: RTCP that the library's calls for C do not write or read yet */
+/* rtcp.c: RTCP of viewers */
 typedef struct {
     int32_t lost;   /* packets, since the stream began */
     uint32_t last;  /* the middle 32 bits of the NTP time of the last sender report; 0: none */

@@ -1,4 +1,4 @@
-/* Viewers: each gets the packets of its publisher under SSRCs and numbers of its own, and again what it requests. */
+/* Viewers: each gets the packets of its publisher under other SSRCs and numbers, and again what it requests. */
 #include "server.h"
 
 #include <libavutil/intreadwrite.h>
@@ -63,15 +63,12 @@ uint32_t viewer_ssrc(const peer *it, int kind) { return it->viewer[kind].ssrc; }
 
 /* ---- packets ---- */
 
-/* The temporal layer of a VP8 payload (RFC 7741, section 4.2), which the library reports for units alone, and whether a picture
- * begins with it. */
+/* The temporal layer of a VP8 payload, and whether a picture begins with it. */
 static int temporal_of(cpay_codec codec, const uint8_t *payload, size_t size, bool *begins) {
-    cpay_vp8_fields_info fields = {0};
-    bool starts_keyframe;
-    if (codec != CPAY_VP8 || cpay_vp8_fields(payload, size, &fields, &starts_keyframe)) return 0;
-    size_t at = 2 + (size_t)fields.picture_id_bits / 7 + fields.has_tl0_pic_idx;
-    *begins = (payload[0] & 0x1f) == 0x10; /* S, and partition 0 */
-    return (payload[0] & 0x80) && (payload[1] & 0x20) && at < size ? payload[at] >> 6 : 0;
+    cpay_temporal_layer_info layer = {0};
+    if (codec != CPAY_VP8) return 0;
+    *begins = size > 0 && (payload[0] & 0x1f) == 0x10; /* S, and partition 0 */
+    return cpay_temporal_layer(codec, payload, size, &layer) == CPAY_OK ? layer.id : 0;
 }
 
 /* Wraps a packet of audio in RED, with the one before it (RFC 2198). Returns the new size. */

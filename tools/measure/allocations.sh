@@ -1,7 +1,7 @@
 #!/bin/bash
 # Counts the allocations of the calls of tools/bench, over the proved library for C. Prints a table of allocations per frame,
 # and one of the bytes that a receiving stream keeps. Fails if `cpay_packetize_into`, a sender of datagrams or a reader of RTP
-# packets allocates in steady state. rust/tests/steady_state.rs shows the same for `packetize_into`, `wrap_into`, `pop_into` and
+# packets allocates in steady state. rust/tests/steady_state.rs shows the same for `packetize_into`, `wrap_into`, `pop_unit` and
 # queries.
 #
 #   tools/measure/allocations.sh           builds tools/bench and counts in all its cases

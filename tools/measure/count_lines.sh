@@ -1,6 +1,6 @@
 #!/bin/sh
 # Prints how much there is to read: lines without comments and empty lines. First code, definitions and proofs of the library's
-# crates; then the files that a user trusts in addition to the proof, in plain Rust and in C; last the lines of the assembly.
+# crates; then the files that a user trusts in addition to the proof, in plain Rust and in C.
 set -eu
 cd "$(dirname "$0")/../.."
 
@@ -27,6 +27,4 @@ printf 'contracts and ghost items in src: %s\n' "$clauses"
     lines 'C: memory.c' '/?[*]' c/src/memory.c
     lines 'C: sdp.c' '/?[*]' $(git ls-files 'c/src/sdp*')
     lines 'C: assembly.py' '#' scripts/assembly.py
-    lines 'assembly: x86_64' '#' c/generated/x86_64-linux.S
-    lines 'assembly: aarch64' '//' c/generated/aarch64-linux.S
 }

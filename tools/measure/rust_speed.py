@@ -28,7 +28,7 @@ CASES = [("opus", 120), ("VP8", 1_000), ("VP8", 20_000), ("VP9", 1_000), ("VP9",
 CALLS = ["packetize", "packetize_into", "depacketize"]
 # The orders and ways of tools/speed/src/bin/buffer.rs.
 ARRIVALS = {"opus": "Opus, in order", "rows": "Opus, ranges of 32 in reverse", "vp8": "VP8, 17 packets a frame"}
-WAYS = {"into": "`push`, `pop_into`", "unit": "`push`, `pop_unit`", "packed": "`store_packed`, `pop_unit`"}
+WAYS = {"unit": "`push`, `pop_unit`", "packed": "`store_packed`, `pop_unit`"}
 # The rounds of tools/speed, each with this many calls.
 ROUNDS = 12
 # The streams and the hostile datagrams of tools/speed/src/bin/session.rs.
@@ -52,9 +52,9 @@ CHOSEN = {
     ("blocks", 32): ("RED with 32 blocks, all of lost packets", 50_300),
     ("requests", 350): ("RTCP: a NACK with 350 pairs", 1_000),
     ("reports", 1): ("RTCP: a receiver report of 31 blocks", 1_000),
-    ("goodbyes", 11): ("RTCP: BYE of 341 SSRCs", 8_300),
+    ("goodbyes", 11): ("RTCP: BYE of 341 SSRCs", 11_900),
     ("numbered", 4_000): ("a packet with a transport-wide number, behind 4,000 of them", 4_300),
-    ("strays", 1_000): ("a packet of a new SSRC, all 64 places taken by senders of one packet", 41_500),
+    ("strays", 1_000): ("a packet of a new SSRC, all 64 places taken by senders of one packet", 38_000),
 }
 HOSTILE = {"goodbyes": "300 BYEs of nobody, 1,200 bytes", "strays": "a packet of a new SSRC, all places taken"}
 

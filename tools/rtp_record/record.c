@@ -104,7 +104,7 @@ static bool is_decodable(record *it, const cpay_unit *unit) {
     return unit->decodable && !it->broken;
 }
 
-/* Whether a frame is left out, which is counted: before the first keyframe, and, if that is wanted, if a decoder cannot show it. */
+/* Whether a frame is left out, which is counted: before the first keyframe, and, if the option says so, if a decoder cannot show it. */
 static bool is_left_out(record *it, bool decodable) {
     if (decodable || (it->begun && !it->options.decodable)) return false;
     it->totals.skipped++;

@@ -8,7 +8,7 @@ use Rattle.codec_payload_base.specs.declared.error.PacketError.TheVariants as fa
 use Rattle.codec_payload_buffer.specs.Held.{Held, AllAbove, IsAboveCutoff, above, between}
 use Rattle.codec_payload_buffer.specs.Blanks.{released_packets}
 use Rattle.codec_payload_buffer.specs.Leaving.{left_of, packets_in, refused_by, refused_in}
-use Rattle.codec_payload_buffer.specs.Release.{Release}
+use Rattle.codec_payload_metadata.specs.Release.{Release}
 use Rattle.codec_payload_buffer.specs.Steps.{State, IsSound, Passes, PassesOver, Pops, TakesFrame, none, one_more, due_of, packets_of_frame}
 use Rattle.codec_payload_buffer.specs.declared.buffer.frames.CompleteFrame.{CompleteFrame}
 use Rattle.codec_payload_buffer.specs.declared.buffer.leaving.Left.{Left}

@@ -9,10 +9,10 @@ use Rattle.codec_payload_buffer.proofs.FrameParts.{IsPart, IsRun}
 use Rattle.codec_payload_base.specs.Time.{Time}
 use Rattle.codec_payload_base.specs.declared.error.PacketError.{PacketError}
 use Rattle.codec_payload_base.specs.declared.error.PacketError.TheVariants as faults
-use Rattle.codec_payload_buffer.specs.Release.{Release}
+use Rattle.codec_payload_metadata.specs.Release.{Release}
 use Rattle.codec_payload_buffer.specs.Scan.{first_of}
 use Rattle.codec_payload_buffer.specs.Steps.{State, IsSound, due_of, due_among, starts_right_after, packets_of_frame, AllOfTime, metas_of, Passes, none, one_more, PassesOver, Releases, TakesFrame}
-use Rattle.codec_payload_buffer.specs.declared.buffer.unit.RtpMeta.{RtpMeta}
+use Rattle.codec_payload_metadata.specs.declared.meta.RtpMeta.{RtpMeta}
 use Rattle.std.proofs.Common.{zero, suc, get_or, subst}
 use Rattle.codec_payload_codec.proofs.CaseLemmas.{by_test}
 use Rattle.codec_payload_buffer.proofs.RowLemmas.{first_split, first_le_last, part_between, run_length}

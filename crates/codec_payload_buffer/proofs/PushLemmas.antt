@@ -5,7 +5,7 @@ use Rattle.std.proofs.lemmas.Bool.{cases_lt}
 use Rattle.std.proofs.lemmas.Bool.Decides.{nat_tests}
 use Rattle.std.proofs.lemmas.List.{length-append, take-append-drop, take_at, drop_at, length-take-le}
 use Rattle.codec_payload_codec.specs.Depacketizers.{DepacketizerState, is_built_in_depacketizer, head_of, tail_of}
-use Rattle.codec_payload_buffer.specs.declared.buffer.unit.RtpMeta.{RtpMeta}
+use Rattle.codec_payload_metadata.specs.declared.meta.RtpMeta.{RtpMeta}
 use Rattle.codec_payload_buffer.specs.Held.{Held, Rises, AllAbove, IsAboveCutoff, placed, has_number, number_of, TakesLowest}
 use Rattle.codec_payload_buffer.specs.Steps.{State, IsArrived, pushed, is_dropped, kept_to_limit, without_lowest, is_at_most}
 use Rattle.codec_payload_buffer.proofs.Gathered.{gathered, last_number, is_some_left, with_kept}

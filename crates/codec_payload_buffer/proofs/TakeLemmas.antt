@@ -4,14 +4,14 @@ use Rattle.codec_payload_base.specs.Time.{Time}
 use Rattle.codec_payload_base.specs.declared.error.PacketError.{PacketError}
 use Rattle.codec_payload_base.specs.declared.error.PacketError.TheVariants as faults
 use Rattle.codec_payload_base.specs.declared.interface.CodecExtra.TheVariants as extras
-use Rattle.codec_payload_buffer.specs.ContiguityTable.{checked}
+use Rattle.codec_payload_contiguity.specs.ContiguityTable.{checked}
 use Rattle.codec_payload_codec.specs.Depacketizers.{DepacketizerState}
 use Rattle.codec_payload_buffer.specs.Held.{Held, above}
-use Rattle.codec_payload_buffer.specs.Release.{Release}
+use Rattle.codec_payload_metadata.specs.Release.{Release}
 use Rattle.codec_payload_buffer.specs.Steps.{State, Unpacked, Unpacks, Gives, due_of, packets_of_frame, metas_of, AllOfTime, follows, TakesFrame, Releases, PassesOver}
 use Rattle.codec_payload_buffer.specs.declared.buffer.frames.CompleteFrame.{CompleteFrame}
-use Rattle.codec_payload_buffer.specs.declared.buffer.unit.RtpMeta.{RtpMeta}
-use Rattle.codec_payload_buffer.specs.declared.contiguity.Contiguity.{Contiguity}
+use Rattle.codec_payload_metadata.specs.declared.meta.RtpMeta.{RtpMeta}
+use Rattle.codec_payload_contiguity.specs.declared.contiguity.Contiguity.{Contiguity}
 
 -- what the depacketizer gave for the packets of a frame
 pub gives_of : (s : State) (f : CompleteFrame) (packets : List Held) (bytes : List ℕ) (answer : Result Unpacked PacketError) (e : DepacketizerState) → packets ≡ packets_of_frame s f

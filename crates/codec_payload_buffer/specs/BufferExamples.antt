@@ -7,8 +7,8 @@ use Rattle.codec_payload_buffer.specs.Frames.{frames}
 use Rattle.codec_payload_buffer.specs.Steps.{State, arrived, pushed, due_of, follows, without}
 use Rattle.codec_payload_buffer.specs.Stretches.{after_pushes}
 use Rattle.codec_payload_buffer.specs.declared.buffer.frames.CompleteFrame.{CompleteFrame}
-use Rattle.codec_payload_buffer.specs.declared.buffer.unit.RtpMeta.{RtpMeta}
-use Rattle.codec_payload_buffer.specs.declared.contiguity.Contiguity.TheVariants as kept
+use Rattle.codec_payload_metadata.specs.declared.meta.RtpMeta.{RtpMeta}
+use Rattle.codec_payload_contiguity.specs.declared.contiguity.Contiguity.TheVariants as kept
 
 -- the metadata of a packet with this number and time
 abbrev meta_at : ℕ → ℕ → RtpMeta

@@ -2,7 +2,7 @@
 use Rattle.std.specs.Prelude.{◌≡◌, ◌≢◌, ℕ, ◌<◌, ◌≤◌, ◌⊎◌, Bool, List, [], ◌∷◌, ◌++◌, Option, Some, None, Err, Contains, length, map, slice_get}
 use Rattle.codec_payload_base.specs.declared.error.PacketError.TheVariants as faults
 use Rattle.codec_payload_buffer.specs.Steps.{State, arrived, pushed, Pops}
-use Rattle.codec_payload_buffer.specs.declared.buffer.unit.RtpMeta.{RtpMeta}
+use Rattle.codec_payload_metadata.specs.declared.meta.RtpMeta.{RtpMeta}
 use Rattle.codec_payload_buffer_runs.specs.Exact.{AnswersAll}
 use Rattle.codec_payload_buffer_runs.specs.Headline.{InOrder, IsUnused}
 use Rattle.codec_payload_payloader.specs.Packets.{Packet}

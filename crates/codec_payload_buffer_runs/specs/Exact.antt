@@ -2,8 +2,8 @@
 use Rattle.std.specs.Prelude.{◌≡◌, ◌≢◌, ℕ, ◌+◌, ◌<◌, ◌≤◌, List, [], ◌∷◌, Some, None, Ok, Contains, length, slice_get}
 use Rattle.codec_payload_base.specs.Pieces.{joined}
 use Rattle.codec_payload_buffer_runs.specs.Headline.{IsPushOf, ArePushesBy, ReleasesInOrder}
-use Rattle.codec_payload_buffer.specs.Release.{Release}
-use Rattle.codec_payload_buffer.specs.declared.buffer.unit.RtpMeta.{RtpMeta}
+use Rattle.codec_payload_metadata.specs.Release.{Release}
+use Rattle.codec_payload_metadata.specs.declared.meta.RtpMeta.{RtpMeta}
 use Rattle.codec_payload_payloader.specs.Packets.{Packet}
 use Rattle.codec_payload_buffer_runs.specs.Schedule.{Answer, RunState}
 use Rattle.codec_payload_payloader.specs.Sending.{Sample}

@@ -1,16 +1,16 @@
 -- The units that a buffer releases for a run, with any loss, repetition and reordering.
 use Rattle.std.specs.Prelude.{◌≡◌, ℕ, ◌+◌, ◌<◌, ◌≤◌, Bool, true, false, List, [], ◌∷◌, ◌++◌, Some, None, Ok, Err, length, map, take, slice_get}
-use Rattle.codec_payload_buffer.specs.ContiguityTable.{contiguity_for}
+use Rattle.codec_payload_contiguity.specs.ContiguityTable.{contiguity_for}
 use Rattle.codec_payload_codec.specs.Depacketizers.{kind_of_depacketizer}
 use Rattle.codec_payload_codec.specs.Packetizers.{is_built_in, payloads_by, may_split}
 use Rattle.codec_payload_payloader.specs.Packets.{Packet}
 use Rattle.codec_payload_buffer_runs.specs.RunCounts.{sent_before}
 use Rattle.codec_payload_buffer_runs.specs.ReportedIds.{read_by}
-use Rattle.codec_payload_buffer.specs.Release.{Release}
+use Rattle.codec_payload_metadata.specs.Release.{Release}
 use Rattle.codec_payload_buffer_runs.specs.Schedule.{Answer, RunState, meta_of_push}
 use Rattle.codec_payload_payloader.specs.Sending.{Sample}
 use Rattle.codec_payload_buffer_runs.specs.SentStream.{SentUnit, packets_of, AllEndWithTail, IsReleaseOf, units_of_run}
-use Rattle.codec_payload_buffer.specs.declared.buffer.unit.RtpMeta.{RtpMeta}
+use Rattle.codec_payload_metadata.specs.declared.meta.RtpMeta.{RtpMeta}
 use Rattle.codec_payload_buffer_runs.specs.declared.run.Sent.{Sent}
 use Rattle.codec_payload_buffer_runs.specs.declared.run.Step.{Step}
 use Rattle.codec_payload_buffer_runs.specs.declared.run.Step.TheVariants as steps

@@ -1,7 +1,7 @@
 -- Only the set of packets pushed before each pop matters in runs with RED: two runs that push the same packets.
 use Rattle.std.specs.Prelude.{◌≡◌, false, List, map}
 use Rattle.codec_payload_base.specs.Extensions.{no_values}
-use Rattle.codec_payload_buffer.specs.declared.buffer.unit.RtpMeta.{RtpMeta}
+use Rattle.codec_payload_metadata.specs.declared.meta.RtpMeta.{RtpMeta}
 use Rattle.codec_payload_buffer_runs.specs.RedPromises.{RedRan, IsRedFresh, RedLog, RunsAsRedSteps, sent_in}
 use Rattle.codec_payload_buffer_runs.specs.RedSchedule.{Protection, RedState}
 use Rattle.codec_payload_buffer_runs.specs.RunOrder.{PushTheSame, answer_with}

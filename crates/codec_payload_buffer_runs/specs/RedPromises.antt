@@ -7,7 +7,7 @@ use Rattle.codec_payload_base.specs.declared.wire.ToPayload.{ToPayload}
 use Rattle.codec_payload_codec.specs.Depacketizers.{DepacketizerState}
 use Rattle.codec_payload_buffer.specs.Held.{Held}
 use Rattle.codec_payload_buffer.specs.Steps.{arrived}
-use Rattle.codec_payload_buffer.specs.declared.buffer.unit.RtpMeta.{RtpMeta}
+use Rattle.codec_payload_metadata.specs.declared.meta.RtpMeta.{RtpMeta}
 use Rattle.codec_payload_buffer_runs.specs.Exact.{IsPushedFirst, AnswersAll}
 use Rattle.codec_payload_buffer_runs.specs.Headline.{AreOfEarlier, InOrder, IsUnused}
 use Rattle.codec_payload_buffer_runs.specs.LawfulUnits.{AllLawful}

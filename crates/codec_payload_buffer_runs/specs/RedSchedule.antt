@@ -6,7 +6,7 @@ use Rattle.codec_payload_base.specs.declared.error.PacketError.TheVariants as fa
 use Rattle.codec_payload_buffer.specs.Held.{Held}
 use Rattle.codec_payload_codec.specs.Packetizers.{PacketizerState, PacketizerStep, is_built_in}
 use Rattle.codec_payload_buffer.specs.Steps.{State, IsArrived, pushed, Pops}
-use Rattle.codec_payload_buffer.specs.declared.buffer.unit.RtpMeta.{RtpMeta}
+use Rattle.codec_payload_metadata.specs.declared.meta.RtpMeta.{RtpMeta}
 use Rattle.codec_payload_payloader.specs.Packets.{Packet, SentPackets}
 use Rattle.codec_payload_payloader.specs.RedPackets.{in_red}
 use Rattle.codec_payload_buffer_runs.specs.Schedule.{Answer, RunState, run_state, after_send, packets_sent, DoesStep}

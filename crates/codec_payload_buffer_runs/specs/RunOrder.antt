@@ -4,13 +4,13 @@ use Rattle.codec_payload_buffer_runs.specs.Headline.{IsPushOf, IsUnused}
 use Rattle.codec_payload_buffer.specs.Held.{Held, has_number}
 use Rattle.codec_payload_buffer_runs.specs.Log.{Stretch, Turn, RunLog}
 use Rattle.codec_payload_payloader.specs.Packets.{Packet}
-use Rattle.codec_payload_buffer.specs.Release.{Release}
+use Rattle.codec_payload_metadata.specs.Release.{Release}
 use Rattle.codec_payload_buffer_runs.specs.Schedule.{Answer, RunState, Runs}
 use Rattle.codec_payload_payloader.specs.Sending.{Sample}
 use Rattle.codec_payload_buffer_runs.specs.SentStream.{AreReadable}
 use Rattle.codec_payload_buffer.specs.Stretches.{after_pushes, stretch_numbers, left_out, is_some_of, IsLeft}
 use Rattle.codec_payload_buffer_runs.specs.ReportedIds.{next_id}
-use Rattle.codec_payload_buffer.specs.declared.buffer.unit.RtpMeta.{RtpMeta}
+use Rattle.codec_payload_metadata.specs.declared.meta.RtpMeta.{RtpMeta}
 use Rattle.codec_payload_buffer_runs.specs.declared.run.Sent.{Sent}
 use Rattle.codec_payload_buffer_runs.specs.declared.run.Step.{Step}
 

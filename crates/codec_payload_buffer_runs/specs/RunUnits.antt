@@ -4,7 +4,7 @@ use Rattle.codec_payload_buffer.specs.Frames.{frames}
 use Rattle.codec_payload_buffer_runs.specs.Headline.{IsPushOf, packets_before, IsUnitAt}
 use Rattle.codec_payload_buffer.specs.Held.{has_number}
 use Rattle.codec_payload_buffer_runs.specs.Log.{Stretch, Turn, RunLog}
-use Rattle.codec_payload_buffer.specs.Release.{Release}
+use Rattle.codec_payload_metadata.specs.Release.{Release}
 use Rattle.codec_payload_payloader.specs.Packets.{Packet}
 use Rattle.codec_payload_buffer_runs.specs.RunOrder.{evicted_in, last_number}
 use Rattle.codec_payload_buffer_runs.specs.Schedule.{Answer, RunState}
@@ -14,7 +14,7 @@ use Rattle.codec_payload_buffer.specs.Steps.{State}
 use Rattle.codec_payload_buffer_runs.specs.ReportedIds.{next_id}
 use Rattle.codec_payload_codec.specs.Packetizers.{may_split}
 use Rattle.codec_payload_buffer.specs.declared.buffer.frames.CompleteFrame.{CompleteFrame}
-use Rattle.codec_payload_buffer.specs.declared.buffer.unit.RtpMeta.{RtpMeta}
+use Rattle.codec_payload_metadata.specs.declared.meta.RtpMeta.{RtpMeta}
 use Rattle.codec_payload_buffer_runs.specs.declared.run.Sent.{Sent}
 use Rattle.codec_payload_buffer_runs.specs.declared.run.Step.{Step}
 

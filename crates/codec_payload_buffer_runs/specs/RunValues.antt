@@ -2,7 +2,7 @@
 use Rattle.std.specs.Prelude.{◌≡◌, ℕ, true, List, [], ◌∷◌, ◌++◌, Option, Some, None, map, slice_get}
 use Rattle.codec_payload_base.specs.declared.wire.extension.ExtensionValues.{ExtensionValues}
 use Rattle.codec_payload_codec.specs.Packetizers.{PacketizerState, is_video, may_split}
-use Rattle.codec_payload_buffer.specs.Release.{Release, AreValues}
+use Rattle.codec_payload_metadata.specs.Release.{Release, AreValues}
 use Rattle.codec_payload_buffer_runs.specs.Headline.{IsPushOf, ReleasesInOrder}
 use Rattle.codec_payload_buffer_runs.specs.RunUnits.{IsWholeAt}
 use Rattle.codec_payload_buffer_runs.specs.Schedule.{Answer, RunState}

@@ -7,9 +7,9 @@ use Rattle.codec_payload_buffer.specs.Held.{Held}
 use Rattle.codec_payload_codec.specs.Packetizers.{PacketizerState, PacketizerStep, is_built_in}
 use Rattle.codec_payload_payloader.specs.Packets.{Packet, SentPackets, AreNumbered}
 use Rattle.codec_payload_payloader.specs.Sending.{Sample, Payloading, packets_for, rtp_time_at, AreAs}
-use Rattle.codec_payload_buffer.specs.Release.{Release}
+use Rattle.codec_payload_metadata.specs.Release.{Release}
 use Rattle.codec_payload_buffer.specs.Steps.{State, IsArrived, pushed, Pops}
-use Rattle.codec_payload_buffer.specs.declared.buffer.unit.RtpMeta.{RtpMeta}
+use Rattle.codec_payload_metadata.specs.declared.meta.RtpMeta.{RtpMeta}
 use Rattle.codec_payload_buffer_runs.specs.declared.run.Sent.{Sent}
 use Rattle.codec_payload_buffer_runs.specs.declared.run.Step.{Step}
 use Rattle.codec_payload_buffer_runs.specs.declared.run.Step.TheVariants as steps

@@ -3,14 +3,14 @@ use Rattle.std.proofs.Common.{◌≡◌, ◌∙◌, ap, refl, sym, ℕ, Bool, tr
 use Rattle.codec_payload_c.specs.StreamReceivers.{AreSettings, is_in_range, red_in_range, red_rtx_in_range, rtx_in_range}
 use Rattle.codec_payload_c.specs.Inspect.{given_if}
 use Rattle.codec_payload_core.specs.Depacketizers.{DepacketizerState}
-use Rattle.codec_payload_jitter.specs.Numbers.{Numbering, numbering_within}
-use Rattle.codec_payload_receiver.specs.declared.datagram.RedStream.{RedStream}
+use Rattle.codec_payload_numbers.specs.Numbers.{Numbering, numbering_within}
+use Rattle.codec_payload_datagrams.specs.declared.kinds.RedStream.{RedStream}
 use Rattle.codec_payload_receiver.specs.Sessions.{red_by, red_within, retransmission_fits, session_by, session_in, session_within}
 use Rattle.codec_payload_c.specs.declared.receiver.ReceiverSettings.{ReceiverSettings}
-use Rattle.codec_payload_jitter.specs.declared.numbers.WindowError.{WindowError}
-use Rattle.codec_payload_jitter.specs.declared.numbers.WindowError.TheVariants as windows
+use Rattle.codec_payload_numbers.specs.declared.numbers.WindowError.{WindowError}
+use Rattle.codec_payload_numbers.specs.declared.numbers.WindowError.TheVariants as windows
 use Rattle.codec_payload_receiver.specs.declared.receiver.RedSettings.{RedSettings}
-use Rattle.codec_payload_receiver.specs.declared.receiver.Retransmission.{Retransmission}
+use Rattle.codec_payload_datagrams.specs.declared.kinds.Retransmission.{Retransmission}
 use Rattle.codec_payload_receiver.specs.declared.receiver.Settings.{Settings}
 use Rattle.codec_payload_receiver.specs.declared.receiver.SettingsError.{SettingsError}
 use Rattle.codec_payload_receiver.specs.declared.receiver.SettingsError.TheVariants as settings

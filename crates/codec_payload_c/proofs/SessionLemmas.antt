@@ -1,10 +1,10 @@
 -- New sessions: the faults of their settings.
 use Rattle.std.proofs.Common.{◌≡◌, ◌∙◌, ◌&&◌, ℕ, List, Bool, true, false, not, if◌then◌else◌, Option, Some, None, Ok, Err, inl, inr, is_some, ap, refl, sym}
-use Rattle.codec_payload_session.specs.Checks.{checked, fault_of, feedback_fault, name_fault}
+use Rattle.codec_payload_session_formats.specs.Checks.{checked, fault_of, feedback_fault, name_fault}
 use Rattle.codec_payload_session.specs.Ports.{Session, made_of, new_session}
-use Rattle.codec_payload_session.specs.declared.checks.SessionSettingsError.{SessionSettingsError}
-use Rattle.codec_payload_session.specs.declared.formats.FeedbackSettings.{FeedbackSettings}
-use Rattle.codec_payload_session.specs.declared.formats.SessionSettings.{SessionSettings as Settings}
+use Rattle.codec_payload_session_formats.specs.declared.checks.SessionSettingsError.{SessionSettingsError}
+use Rattle.codec_payload_session_formats.specs.declared.formats.FeedbackSettings.{FeedbackSettings}
+use Rattle.codec_payload_session_formats.specs.declared.formats.SessionSettings.{SessionSettings as Settings}
 use Rattle.codec_payload_c.specs.SessionFormats.{AreSessionSettings, MatchFeedbackIf, RefusesSession, fault_given}
 use Rattle.codec_payload_c.specs.declared.session_settings.SessionFeedback.{SessionFeedback}
 use Rattle.codec_payload_c.specs.declared.session_settings.SessionFormat.{SessionFormat}

@@ -2,9 +2,9 @@
 use Rattle.std.proofs.Common.{◌≡◌, ◌∙◌, ◌&&◌, ℕ, suc, List, [], ◌∷◌, Bool, true, false, not, if◌then◌else◌, Option, Some, None, Ok, Err, inl, inr, is_some, ap, ap₂, refl, sym, subst, arith}
 use Rattle.std.specs.Prelude.{⊤, nat_le, nat_lt}
 use Rattle.std.specs.List.{list_all}
-use Rattle.codec_payload_session.specs.Checks.{checked, fault_of}
-use Rattle.codec_payload_session.specs.declared.checks.SessionSettingsError.{SessionSettingsError}
-use Rattle.codec_payload_session.specs.declared.formats.SessionSettings.{SessionSettings as Settings}
+use Rattle.codec_payload_session_formats.specs.Checks.{checked, fault_of}
+use Rattle.codec_payload_session_formats.specs.declared.checks.SessionSettingsError.{SessionSettingsError}
+use Rattle.codec_payload_session_formats.specs.declared.formats.SessionSettings.{SessionSettings as Settings}
 use Rattle.codec_payload_c.specs.SessionFaults.{TellsFault, fault_at, fault_for_c, fault_told, first_told, plain_fault, range_fault, rate_fault}
 use Rattle.codec_payload_c.specs.SessionFormats.{AreSessionSettings, RefusesSession, can_convert, fault_given, format_in_range, is_in_range, session_in_range}
 use Rattle.codec_payload_c.specs.declared.session_faults.SettingsFault.{SettingsFault}

@@ -3,10 +3,10 @@ use Rattle.std.specs.Prelude.{◌≡◌, ◌⊎◌, ℕ, true, false, List, None
 use Rattle.std.specs.Global.{Vec}
 use Rattle.std.specs.List.{list_all}
 use Rattle.codec_payload_handle.specs.declared.object.PortSession.{PortSession}
-use Rattle.codec_payload_session.specs.Checks.{fault_of}
+use Rattle.codec_payload_session_formats.specs.Checks.{fault_of}
 use Rattle.codec_payload_session.specs.Ports.{Session}
 use Rattle.codec_payload_session.specs.Renegotiation.{SetsFormats as SetsThem, with_formats}
-use Rattle.codec_payload_session.specs.declared.formats.Format.{Format}
+use Rattle.codec_payload_session_formats.specs.declared.formats.Format.{Format}
 use Rattle.codec_payload_c.specs.SessionFormats.{format_given, format_in_range}
 use Rattle.codec_payload_c.specs.declared.session_settings.SessionFormat.{SessionFormat}
 

@@ -1,8 +1,8 @@
 -- The first setting of a session that no session can meet, as C sees it.
 use Rattle.std.specs.Prelude.{◌≡◌, ◌⊎◌, ℕ, suc, nat_le, nat_lt, if◌then◌else◌, true, false, Option, Some, None, List, [], ◌∷◌}
 use Rattle.std.specs.Option.{option_map}
-use Rattle.codec_payload_session.specs.declared.checks.SessionSettingsError.{SessionSettingsError}
-use Rattle.codec_payload_session.specs.declared.checks.SessionSettingsError.TheVariants as faults
+use Rattle.codec_payload_session_formats.specs.declared.checks.SessionSettingsError.{SessionSettingsError}
+use Rattle.codec_payload_session_formats.specs.declared.checks.SessionSettingsError.TheVariants as faults
 use Rattle.codec_payload_c.specs.SessionFormats.{fault_given, format_in_range}
 use Rattle.codec_payload_c.specs.declared.session_faults.SettingsFault.{SettingsFault}
 use Rattle.codec_payload_c.specs.declared.session_settings.SessionFormat.{SessionFormat}

@@ -6,15 +6,15 @@ use Rattle.codec_payload_handle.specs.declared.object.Object.{Object}
 use Rattle.codec_payload_handle.specs.declared.object.Object.TheVariants as objects
 use Rattle.codec_payload_handle.specs.declared.object.PortSession.{PortSession}
 use Rattle.codec_payload_feedback.specs.declared.transport.TransportSettings.{TransportSettings}
-use Rattle.codec_payload_session.specs.Checks.{fault_in, first_of, name_fault, transport_fault}
+use Rattle.codec_payload_session_formats.specs.Checks.{fault_in, first_of, name_fault, transport_fault}
 use Rattle.codec_payload_session.specs.Ports.{new_session}
-use Rattle.codec_payload_session.specs.declared.checks.SessionSettingsError.{SessionSettingsError}
-use Rattle.codec_payload_session.specs.declared.formats.FeedbackSettings.{FeedbackSettings}
-use Rattle.codec_payload_session.specs.declared.formats.Format.{Format}
-use Rattle.codec_payload_session.specs.declared.formats.SessionSettings.{SessionSettings as Settings}
-use Rattle.codec_payload_session.specs.declared.formats.SsrcPair.{SsrcPair as Pair}
-use Rattle.codec_payload_session.specs.declared.formats.Waiting.{Waiting}
-use Rattle.codec_payload_session.specs.declared.formats.Waiting.TheVariants as waitings
+use Rattle.codec_payload_session_formats.specs.declared.checks.SessionSettingsError.{SessionSettingsError}
+use Rattle.codec_payload_session_formats.specs.declared.formats.FeedbackSettings.{FeedbackSettings}
+use Rattle.codec_payload_session_formats.specs.declared.formats.Format.{Format}
+use Rattle.codec_payload_session_formats.specs.declared.formats.SessionSettings.{SessionSettings as Settings}
+use Rattle.codec_payload_session_formats.specs.declared.formats.SsrcPair.{SsrcPair as Pair}
+use Rattle.codec_payload_session_formats.specs.declared.formats.Waiting.{Waiting}
+use Rattle.codec_payload_session_formats.specs.declared.formats.Waiting.TheVariants as waitings
 use Rattle.codec_payload_receiver.specs.declared.receiver.RedSettings.{RedSettings}
 use Rattle.codec_payload_c.specs.AdaptiveWaits.{settings_given}
 use Rattle.codec_payload_c.specs.Ids.{id_given, ids_given}

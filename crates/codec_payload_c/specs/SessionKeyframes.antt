@@ -4,8 +4,8 @@ use Rattle.std.specs.List.{position}
 use Rattle.codec_payload_handle.specs.declared.object.PortSession.{PortSession}
 use Rattle.codec_payload_session.specs.Arrivals.{has_ssrc}
 use Rattle.codec_payload_session.specs.Keyframes.{KeyframeLeaves, answer_among, asks_keyframe}
-use Rattle.codec_payload_session.specs.declared.keyframe.KeyframeAnswer.{KeyframeAnswer}
-use Rattle.codec_payload_session.specs.declared.keyframe.KeyframeAnswer.TheVariants as answers
+use Rattle.codec_payload_session_requests.specs.declared.requests.KeyframeAnswer.{KeyframeAnswer}
+use Rattle.codec_payload_session_requests.specs.declared.requests.KeyframeAnswer.TheVariants as answers
 
 -- the number of an answer
 abbrev pub answer_number : KeyframeAnswer → ℕ

@@ -4,8 +4,8 @@ use Rattle.std.specs.List.{position}
 use Rattle.codec_payload_handle.specs.declared.object.PortSession.{PortSession}
 use Rattle.codec_payload_session.specs.Ports.{names_among}
 use Rattle.codec_payload_session.specs.Streams.{is_of}
-use Rattle.codec_payload_session.specs.declared.names.StreamNameIds.{StreamNameIds}
-use Rattle.codec_payload_session.specs.declared.names.StreamNames.{StreamNames}
+use Rattle.codec_payload_session_formats.specs.declared.names.StreamNameIds.{StreamNameIds}
+use Rattle.codec_payload_session_formats.specs.declared.names.StreamNames.{StreamNames}
 use Rattle.codec_payload_c.specs.Ids.{id_given}
 use Rattle.codec_payload_c.specs.declared.session_names.StreamNameIds.{StreamNameIds as CIds}
 use Rattle.codec_payload_c.specs.declared.session_names.StreamNames.{StreamNames as CNames}

@@ -1,5 +1,6 @@
 -- The calls on a receiver of datagrams.
 use Rattle.std.specs.Prelude.{◌≡◌, ◌≢◌, ◌⊎◌, ◌<◌, ◌≤◌, ℕ, ◌+◌, ◌-◌, ◌%◌, ◌^◌, ◌&&◌, ◌||◌, ◌==◌, not, nat_le, nat_lt, if◌then◌else◌, Bool, true, false, Option, Some, None, Result, Ok, Err, List, is_some, length, drop, ◌++◌}
+use Rattle.std.specs.Option.{unwrap_or}
 use Rattle.std.specs.declared.alloc.AllocError.{AllocError}
 use Rattle.codec_payload_core.specs.Depacketizers.{DepacketizerState}
 use Rattle.codec_payload_jitter.specs.Missing.{missing_numbers}
@@ -8,16 +9,17 @@ use Rattle.codec_payload_jitter.specs.declared.outcome.Outcome.{Outcome}
 use Rattle.codec_payload_jitter.specs.declared.outcome.Outcome.TheVariants as outcomes
 use Rattle.codec_payload_keyframes.specs.declared.unit_gate.FromKeyframe.{FromKeyframe}
 use Rattle.codec_payload_keyframes.specs.declared.unit_gate.FromKeyframe.TheVariants as modes
-use Rattle.codec_payload_receiver.specs.Kinds.{retransmitted_under}
+use Rattle.codec_payload_datagrams.specs.Kinds.{retransmitted_under}
 use Rattle.codec_payload_receiver.specs.Bounds.{counters_with}
 use Rattle.codec_payload_receiver.specs.Pops.{PopsGated, is_large}
 use Rattle.codec_payload_receiver.specs.Sessions.{Finishes, ReceivesBytes, Session, restarted, session_by}
+use Rattle.codec_payload_receiver.specs.declared.receiver.Counters.{Counters}
 use Rattle.codec_payload_receiver.specs.declared.receiver.ReceiveError.{ReceiveError}
 use Rattle.codec_payload_receiver.specs.declared.receiver.ReceiveError.TheVariants as errors
 use Rattle.codec_payload_receiver.specs.declared.receiver.RedSettings.{RedSettings}
-use Rattle.codec_payload_receiver.specs.declared.receiver.Retransmission.{Retransmission}
+use Rattle.codec_payload_datagrams.specs.declared.kinds.Retransmission.{Retransmission}
 use Rattle.codec_payload_receiver.specs.declared.receiver.Settings.{Settings}
-use Rattle.codec_payload_receiver.specs.declared.reports.ReceptionReport.{ReceptionReport}
+use Rattle.codec_payload_numbers.specs.declared.statistics.ReceptionReport.{ReceptionReport}
 use Rattle.codec_payload_base.specs.declared.wire.Ticks.{Ticks}
 use Rattle.codec_payload_core.specs.Release.{Release}
 use Rattle.codec_payload_core.specs.declared.buffer.RtpMeta.{RtpMeta}
@@ -210,6 +212,36 @@ at_once_if None at = at
 -- a receiver without a unit that waits or was popped
 abbrev pub without_units : Session → StreamReceiver
 without_units s = record { receiver = s; waiting = None; taken = None }
+
+-- these counters, of a receiver with this SSRC that holds so many packets, and for which no unit waits
+abbrev pub counts_from : Counters → (held : ℕ) → (ssrc : Option ℕ) → ReceiverCountsInfo
+counts_from k held ssrc = record {
+  received = k.received;
+  rtcp = k.rtcp;
+  malformed = k.malformed;
+  other_streams = k.other_streams;
+  undecided = k.undecided;
+  no_media = k.packets.no_media;
+  duplicates = k.packets.duplicates;
+  late = k.packets.late;
+  suspect = k.packets.suspect;
+  evicted = k.packets.evicted;
+  released = k.packets.released;
+  left = k.packets.left;
+  incomplete = k.packets.incomplete;
+  skipped = k.packets.skipped;
+  refused = k.packets.refused;
+  restarts = k.packets.restarts;
+  retransmitted = k.packets.retransmitted;
+  recovered = k.packets.recovered;
+  units = k.packets.units;
+  undecodable = k.undecodable;
+  too_large = k.too_large;
+  held = held;
+  ssrc = unwrap_or ssrc 0;
+  has_ssrc = is_some ssrc;
+  waiting = false;
+}
 
 -- the counters of a receiver
 pub record TellsCounts (r : StreamReceiver) (c : ReceiverCountsInfo) : Type 0 where

@@ -68,12 +68,12 @@ fn meta_of(packet: &Received, rate: Frequency) -> RtpMeta
     }
 }
 
-/// Stores a packet.
-fn push(receiver: &mut FrameReceiver, alloc: Global, packet: &Received, payload: &[u8]) -> u32
+/// Stores a packet. Its payload is copied into the memory of one that left, if there is some.
+fn push(receiver: &mut FrameReceiver, packet: &Received, payload: &[u8]) -> u32
     ensures { AnswersPush receiver.old packet.now payload.now result receiver.new }
 {
     let meta = meta_of(packet, receiver.rate);
-    let Ok(data) = Vec::from_slice(alloc, payload) else {
+    let Ok(data) = receiver.buffer.copy_of(payload) else {
         return status::OUT_OF_MEMORY;
     };
     match receiver.buffer.push(meta, data) {
@@ -169,7 +169,7 @@ pub extern "C" fn cpay_buffer_push(
         return status::EMPTY;
     };
     let answer = match &mut *object {
-        Object::FrameReceiver(receiver) => push(receiver, alloc, packet, payload),
+        Object::FrameReceiver(receiver) => push(receiver, packet, payload),
         _ => status::OTHER_KIND,
     };
     handle.put(object);

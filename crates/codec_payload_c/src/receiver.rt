@@ -4,10 +4,10 @@ ghost use Rattle.std.specs.Prelude.{◌≡◌, ◌≢◌, ◌&&◌, ◌++◌, dr
 ghost use Rattle.codec_payload_core.specs.Depacketizers.{depacketizer_state_of};
 ghost use Rattle.codec_payload_jitter.specs.Missing.{missing_numbers};
 ghost use Rattle.codec_payload_jitter.specs.Receiving.{deadline_of};
-ghost use Rattle.codec_payload_receiver.specs.Reports.{report_of, reported};
+ghost use Rattle.codec_payload_numbers.specs.Reports.{report_of, reported};
 ghost use Rattle.codec_payload_receiver.specs.Sessions.{restarted};
 ghost use Rattle.codec_payload_c.specs.Refusals.{RefusesSettings};
-ghost use Rattle.codec_payload_c.specs.StreamReceivers.{AreSettings, EndsWith, IsNewStream, IsStreamReceiverOf, Takes, Tells, TellsCounts, TellsMissing, TellsNumber, TellsReport, at_once_if, without_units, bound_given, from_keyframe_numbered, is_in_range, outcome_number, red_rtx_in_range, red_set, rtx_set, restarted_as, wait_limits_given, waiting_by};
+ghost use Rattle.codec_payload_c.specs.StreamReceivers.{AreSettings, counts_from, EndsWith, IsNewStream, IsStreamReceiverOf, Takes, Tells, TellsCounts, TellsMissing, TellsNumber, TellsReport, at_once_if, without_units, bound_given, from_keyframe_numbered, is_in_range, outcome_number, red_rtx_in_range, red_set, rtx_set, restarted_as, wait_limits_given, waiting_by};
 ghost use Rattle.codec_payload_handle.specs.Kinds.{Makes, OnStreamReceiver, Refuses, is_stream_receiver};
 ghost use Rattle.codec_payload_handle.specs.Settings.{depacketizer_set};
 
@@ -23,7 +23,7 @@ use codec_payload_handle::status;
 use codec_payload_jitter::jitter::WaitLimits as Waiting;
 use codec_payload_jitter::outcome::Outcome;
 use codec_payload_receiver::receiver::{
-    ReceiveError, Receiver, RedSettings, Retransmission, Settings,
+    Counters, ReceiveError, Receiver, RedSettings, Retransmission, Settings,
 };
 use codec_payload_receiver::unit_gate::FromKeyframe;
 use std::alloc::Global;
@@ -323,9 +323,14 @@ fn counts_of(stream: &StreamReceiver) -> ReceiverCountsInfo
 pub(crate) fn counts_by(receiver: &Receiver) -> ReceiverCountsInfo
     ensures { TellsCounts (without_units receiver.now) result }
 {
-    let counters = receiver.counters();
-    let packets = counters.packets;
-    let ssrc = receiver.ssrc();
+    counts_from(&receiver.counters(), receiver.held(), receiver.ssrc())
+}
+
+/// Returns these counters of a receiver with this SSRC, which holds so many packets and for which no unit waits.
+pub(crate) fn counts_from(counters: &Counters, held: usize, ssrc: Option<u32>) -> ReceiverCountsInfo
+    ensures { result ≡ counts_from counters.now held ssrc }
+{
+    let packets = &counters.packets;
     ReceiverCountsInfo {
         received: counters.received,
         rtcp: counters.rtcp,
@@ -348,7 +353,7 @@ pub(crate) fn counts_by(receiver: &Receiver) -> ReceiverCountsInfo
         units: packets.units,
         undecodable: counters.undecodable,
         too_large: counters.too_large,
-        held: receiver.held(),
+        held,
         ssrc: ssrc.unwrap_or(0),
         has_ssrc: ssrc.is_some(),
         waiting: false,

@@ -64,58 +64,61 @@ pub struct Event {
     pub unit: Unit,
 }
 
-/// Returns the result of a datagram that no stream received.
-fn arrived_as(kind: u32) -> Arrival
-    ensures { result ≡ arrived_as kind }
+/// Describes a datagram that no stream received, in place of what `told` has.
+#[inline(always)]
+fn tell_arrived(told: &mut Arrival, kind: u32)
+    ensures { told.new ≡ arrived_as kind }
 {
-    Arrival {
-        kind,
-        ssrc: 0,
-        status: status::OK,
-        outcome: 0,
-        payload_type: 0,
-    }
+    told.kind = kind;
+    told.ssrc = 0;
+    told.status = status::OK;
+    told.outcome = 0;
+    told.payload_type = 0;
 }
 
-/// Returns the result of a datagram for which a stream has this answer.
-fn arrival_at(ssrc: u32, payload_type: u8, answer: Result<Outcome, ReceiveError>) -> Arrival
-    ensures { TellsOfStream ssrc payload_type answer result }
+/// Describes a datagram for which a stream has this answer, in place of what `told` has.
+#[inline(always)]
+fn tell_stream(
+    told: &mut Arrival,
+    ssrc: u32,
+    payload_type: u8,
+    answer: Result<Outcome, ReceiveError>,
+)
+    ensures { TellsOfStream ssrc payload_type answer told.new }
 {
-    let mut outcome = 0;
-    let status = report_answer(answer, &mut outcome);
-    Arrival {
-        kind: 0,
-        ssrc,
-        status,
-        outcome,
-        payload_type,
-    }
+    told.kind = 0;
+    told.ssrc = ssrc;
+    told.outcome = 0;
+    told.payload_type = payload_type;
+    told.status = report_answer(answer, &mut told.outcome);
 }
 
-/// Converts the result of a datagram for C.
-fn arrival_of(arrived: Arrived) -> Arrival
-    ensures { TellsArrival arrived result }
+/// Describes the result of a datagram for C, field by field, in place of what `told` has.
+#[inline(always)]
+fn tell_arrival(told: &mut Arrival, arrived: Arrived)
+    ensures { TellsArrival arrived told.new }
 {
     match arrived {
         Arrived::Stream {
             ssrc,
             payload_type,
             outcome,
-        } => arrival_at(ssrc, payload_type, Ok(outcome)),
+        } => tell_stream(told, ssrc, payload_type, Ok(outcome)),
         Arrived::Faulty {
             ssrc,
             payload_type,
             fault,
-        } => arrival_at(ssrc, payload_type, Err(fault)),
-        Arrived::Rtcp => arrived_as(1),
-        Arrived::Malformed => arrived_as(2),
-        Arrived::Unknown => arrived_as(3),
-        Arrived::Refused => arrived_as(4),
-        Arrived::Unassociated => arrived_as(5),
+        } => tell_stream(told, ssrc, payload_type, Err(fault)),
+        Arrived::Rtcp => tell_arrived(told, 1),
+        Arrived::Malformed => tell_arrived(told, 2),
+        Arrived::Unknown => tell_arrived(told, 3),
+        Arrived::Refused => tell_arrived(told, 4),
+        Arrived::Unassociated => tell_arrived(told, 5),
     }
 }
 
 /// Passes a datagram to the session, with its own time of arrival if that is given.
+#[inline(always)]
 fn take_in(
     port: &mut PortSession,
     micros: Option<u64>,
@@ -131,6 +134,7 @@ fn take_in(
 }
 
 /// Receives a datagram.
+#[inline(always)]
 fn receive(
     port: &mut PortSession,
     micros: Option<u64>,
@@ -142,7 +146,7 @@ fn receive(
 {
     match take_in(port, micros, now, datagram) {
         Ok(arrived) => {
-            *arrival = arrival_of(arrived);
+            tell_arrival(arrival, arrived);
             status::OK
         }
         Err(_) => status::OUT_OF_MEMORY,

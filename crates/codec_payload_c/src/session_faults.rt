@@ -6,7 +6,7 @@ ghost use Rattle.codec_payload_c.specs.SessionFormats.{is_in_range};
 
 use crate::session_settings::{SessionFormat, SessionSettings, is_format_in_range, settings_by};
 use codec_payload_handle::status;
-use codec_payload_session::checks::SessionSettingsError;
+use codec_payload_session_formats::checks::SessionSettingsError;
 use std::alloc::Global;
 
 /// A setting of a session that no session can meet.

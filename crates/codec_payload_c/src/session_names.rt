@@ -9,7 +9,9 @@ use crate::extension::id_of;
 use codec_payload_handle::handle::Handle;
 use codec_payload_handle::object::{Object, PortSession};
 use codec_payload_handle::status;
-use codec_payload_session::names::{StreamName, StreamNameIds as Ids, StreamNames as Names};
+use codec_payload_session_formats::names::{
+    StreamName, StreamNameIds as Ids, StreamNames as Names,
+};
 use std::alloc::Global;
 
 /// The ids of the header extensions with names of streams. 0: no id was agreed on.

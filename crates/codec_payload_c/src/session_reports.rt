@@ -42,7 +42,7 @@ pub struct SenderClockInfo {
 }
 
 /// Returns the fields of a block.
-fn block_info(block: ReportBlock) -> ReportBlockInfo
+pub(crate) fn block_info(block: ReportBlock) -> ReportBlockInfo
     ensures { result ≡ block_info block }
 {
     ReportBlockInfo {

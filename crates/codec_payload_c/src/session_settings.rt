@@ -15,10 +15,10 @@ use codec_payload_handle::object::PortSession;
 use codec_payload_handle::settings::{Spec, codec_of};
 use codec_payload_handle::status;
 use codec_payload_receiver::receiver::RedSettings;
-use codec_payload_session::formats::{
+use codec_payload_session::session::Session;
+use codec_payload_session_formats::formats::{
     FeedbackSettings, Format, SessionSettings as Settings, SsrcPair as Pair, Waiting,
 };
-use codec_payload_session::session::Session;
 use std::alloc::{AllocError, Global};
 
 /// A payload format of a port.

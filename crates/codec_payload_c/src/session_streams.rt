@@ -5,7 +5,9 @@ ghost use Rattle.codec_payload_c.specs.SessionStreams.{DescribesStream, HasLastC
 ghost use Rattle.codec_payload_handle.specs.Kinds.{OnPortSession, Refuses, is_port_session};
 ghost use Rattle.codec_payload_c.specs.StreamReceivers.{wait_limits_given};
 
-use crate::receiver::{ReceiverCountsInfo, WaitLimits, counts_by, missing_into, waiting_for};
+use crate::receiver::{
+    ReceiverCountsInfo, WaitLimits, counts_by, counts_from, missing_into, waiting_for,
+};
 use crate::session::number_of;
 use codec_payload_handle::handle::Handle;
 use codec_payload_handle::object::{Object, PortSession};
@@ -130,35 +132,7 @@ fn described(info: &StreamInfo, counts: ReceiverCountsInfo) -> SessionStream
 fn last_counts(info: &StreamInfo) -> ReceiverCountsInfo
     ensures { HasLastCounts info.now result }
 {
-    let counters = info.counters;
-    let packets = counters.packets;
-    ReceiverCountsInfo {
-        received: counters.received,
-        rtcp: counters.rtcp,
-        malformed: counters.malformed,
-        other_streams: counters.other_streams,
-        undecided: counters.undecided,
-        no_media: packets.no_media,
-        duplicates: packets.duplicates,
-        late: packets.late,
-        suspect: packets.suspect,
-        evicted: packets.evicted,
-        released: packets.released,
-        left: packets.left,
-        incomplete: packets.incomplete,
-        skipped: packets.skipped,
-        refused: packets.refused,
-        restarts: packets.restarts,
-        retransmitted: packets.retransmitted,
-        recovered: packets.recovered,
-        units: packets.units,
-        undecodable: counters.undecodable,
-        too_large: counters.too_large,
-        held: info.held,
-        ssrc: info.ssrc,
-        has_ssrc: true,
-        waiting: false,
-    }
+    counts_from(&info.counters, info.held, Some(info.ssrc))
 }
 
 /// Describes the stream that was removed last.

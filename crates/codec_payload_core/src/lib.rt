@@ -5,8 +5,9 @@
 pub use codec_payload_audio::{amr_wb, plain, tele};
 pub use codec_payload_av1::av1;
 pub use codec_payload_base::{bits, error, interface, payloads, wire};
-pub use codec_payload_buffer::{buffer, contiguity};
+pub use codec_payload_buffer::buffer;
 pub use codec_payload_codec::codec;
+pub use codec_payload_contiguity::contiguity;
 pub use codec_payload_red::red;
 pub use codec_payload_vp8::vp8;
 pub use codec_payload_vp9::vp9;

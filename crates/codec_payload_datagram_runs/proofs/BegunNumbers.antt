@@ -1,9 +1,9 @@
 -- The numbers of the packets of a part: the number of its first sent packet plus their indices, far above all earlier numbers.
 use Rattle.std.proofs.Common.{◌≡◌, ◌∙◌, refl, sym, ap, subst, ℕ, ◌+◌, ◌-◌, ◌%◌, ◌^◌, ◌<◌, ◌≤◌, inl, inr, max, List, [], ◌∷◌, Option, Some, None, arith}
 use Rattle.std.proofs.lemmas.Bool.{cases_lt, le-leb, le-ltb, lt-ltb}
-use Rattle.codec_payload_jitter.specs.Numbers.{Numbering, ahead, answer_anew, answer_by, answer_for, answer_near, begun_with, behind, is_restarting, no_numbers, number_in, numbering_after, numbering_with}
-use Rattle.codec_payload_jitter.specs.declared.numbers.Extended.{Extended}
-use Rattle.codec_payload_jitter.specs.declared.numbers.Extended.TheVariants as extended
+use Rattle.codec_payload_numbers.specs.Numbers.{Numbering, ahead, answer_anew, answer_by, answer_for, answer_near, begun_with, behind, is_restarting, no_numbers, number_in, numbering_after, numbering_with}
+use Rattle.codec_payload_numbers.specs.declared.numbers.Extended.{Extended}
+use Rattle.codec_payload_numbers.specs.declared.numbers.Extended.TheVariants as extended
 use Rattle.codec_payload_datagram_runs.proofs.EventLemmas.{numbering_through}
 use Rattle.codec_payload_datagram_runs.proofs.ReceivingLemmas.{AllNumbered}
 use Rattle.codec_payload_datagram_runs.proofs.ToldLemmas.{AllBegun, numbering_begun}

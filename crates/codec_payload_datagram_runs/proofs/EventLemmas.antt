@@ -6,23 +6,23 @@ use Rattle.codec_payload_buffer.proofs.MemberLemmas.{IsIn}
 use Rattle.codec_payload_buffer.specs.Held.{Held}
 use Rattle.codec_payload_buffer.specs.Steps.{State, arrived, pushed}
 use Rattle.codec_payload_buffer.specs.declared.buffer.frames.CompleteFrame.{CompleteFrame}
-use Rattle.codec_payload_buffer.specs.declared.buffer.unit.RtpMeta.{RtpMeta}
+use Rattle.codec_payload_metadata.specs.declared.meta.RtpMeta.{RtpMeta}
 use Rattle.codec_payload_sending_history.specs.declared.retransmission.RetransmissionStream.{RetransmissionStream}
 use Rattle.codec_payload_buffer_runs.specs.Arrivals.{AllAreMade, Arrives, Asked, Event, HasArrival, Meets, OnlyArrive, PopsWaiting, Tells}
 use Rattle.codec_payload_buffer_runs.specs.Log.{Stretch, Turn, begun, with_pushes}
 use Rattle.codec_payload_rtp.specs.declared.values.ExtensionIds.{ExtensionIds}
 use Rattle.codec_payload_payloader.specs.Packets.{Packet, AreNumbered}
 use Rattle.codec_payload_buffer_runs.specs.Schedule.{Answer}
-use Rattle.codec_payload_jitter.specs.NotedTimes.{AreTimesOf}
+use Rattle.codec_payload_numbers.specs.NotedTimes.{AreTimesOf}
 use Rattle.codec_payload_jitter.specs.Receiving.{Receiving}
-use Rattle.codec_payload_jitter.specs.Numbers.{Numbering, answer_for, numbering_after}
-use Rattle.codec_payload_jitter.specs.declared.numbers.Extended.TheVariants as extended
+use Rattle.codec_payload_numbers.specs.Numbers.{Numbering, answer_for, numbering_after}
+use Rattle.codec_payload_numbers.specs.declared.numbers.Extended.TheVariants as extended
 use Rattle.codec_payload_sending.specs.declared.sender.Outgoing.{Outgoing}
-use Rattle.codec_payload_receiver.specs.Kinds.{Kinds}
+use Rattle.codec_payload_datagrams.specs.Kinds.{Kinds}
 use Rattle.codec_payload_receiver.specs.Sessions.{Session, ended}
 use Rattle.codec_payload_datagram_runs.proofs.ReceivingLemmas.{AllNumbered, IsListening, KeepsLimits, finishes_as, keeps_then, pops_as, pushes_copy, wait_same}
 use Rattle.codec_payload_datagram_runs.proofs.TimelyLemmas.{StayTimely, time_in, timely_next, timely_now, untimely_is}
-use Rattle.codec_payload_jitter.specs.declared.noted_times.NotedTime.{NotedTime}
+use Rattle.codec_payload_numbers.specs.declared.noted_times.NotedTime.{NotedTime}
 use Rattle.codec_payload_datagram_runs.proofs.StepLemmas.{Takes}
 use Rattle.codec_payload_datagram_runs.specs.Releases.{AreDatagrams, HasValuesOf, HaveNoPops, ReadsAs, delivered}
 use Rattle.codec_payload_datagram_runs.specs.WireLogs.{AnswersTurn, IsLogOf, wait_of}

@@ -2,7 +2,7 @@
 use Rattle.std.proofs.Common.{◌≡◌, refl, sym, subst, ℕ, ◌+◌, ◌≤◌, inl, inr, List, [], ◌∷◌, ◌++◌, Bool, Option, Some, None, arith, drop, length}
 use Rattle.std.specs.Prelude.{slice_get}
 use Rattle.codec_payload_buffer.specs.Steps.{State}
-use Rattle.codec_payload_buffer.specs.declared.buffer.unit.RtpMeta.{RtpMeta}
+use Rattle.codec_payload_metadata.specs.declared.meta.RtpMeta.{RtpMeta}
 use Rattle.codec_payload_buffer_runs.specs.Headline.{packets_before}
 use Rattle.codec_payload_buffer_runs.specs.Log.{Stretch, Turn}
 use Rattle.codec_payload_buffer_runs.specs.RunUnits.{Fate, IsHeldWhole, IsPassedOverIn, IsReleasedIn, ReleasesWhole}

@@ -4,13 +4,13 @@ use Rattle.std.proofs.lemmas.Option.{slice_get_within}
 use Rattle.codec_payload_base.specs.declared.error.PacketError.{PacketError}
 use Rattle.codec_payload_base.specs.declared.error.PacketError.TheVariants as faults
 use Rattle.codec_payload_buffer.proofs.PopLemmas.{order_due}
-use Rattle.codec_payload_buffer.specs.ContiguityTable.{checked}
+use Rattle.codec_payload_contiguity.specs.ContiguityTable.{checked}
 use Rattle.codec_payload_buffer.specs.Frames.{frames}
 use Rattle.codec_payload_buffer.specs.Held.{AllAbove, Held, IsAboveCutoff, Rises, above, between, has_number, placed}
-use Rattle.codec_payload_buffer.specs.Release.{Release}
+use Rattle.codec_payload_metadata.specs.Release.{Release}
 use Rattle.codec_payload_buffer.specs.Steps.{AllOfTime, Passes, PassesOver, PopsOver, Refuses, Releases, State, Unpacked, Unpacks, arrived, due_among, due_of, follows, is_dropped, kept_to_limit, metas_of, none, nothing_unpacked, one_more, packets_of_frame, pushed, without, without_lowest}
 use Rattle.codec_payload_buffer.specs.declared.buffer.frames.CompleteFrame.{CompleteFrame}
-use Rattle.codec_payload_buffer.specs.declared.buffer.unit.RtpMeta.{RtpMeta}
+use Rattle.codec_payload_metadata.specs.declared.meta.RtpMeta.{RtpMeta}
 use Rattle.codec_payload_codec.proofs.CaseLemmas.{by_test}
 use Rattle.codec_payload_codec.specs.Depacketizers.{DepacketizerKind, kind_of_depacketizer}
 use Rattle.codec_payload_buffer_runs.proofs.order.ArrivalLemmas.{AllKnown}

@@ -2,11 +2,11 @@
 use Rattle.std.proofs.Common.{◌≡◌, ◌∙◌, refl, sym, ap, ℕ, ◌<◌, ◌≤◌, ◌&&◌, Bool, true, false, cond, ltb, leb, Option, Result, Ok, Err, arith}
 use Rattle.std.proofs.lemmas.Bool.{and_parts, leb-true, ltb-true}
 use Rattle.codec_payload_codec.specs.Depacketizers.{DepacketizerState}
-use Rattle.codec_payload_jitter.specs.Numbers.{IsNumbering, Numbering, no_numbers, numbering_within}
-use Rattle.codec_payload_jitter.specs.declared.numbers.WindowError.{WindowError}
-use Rattle.codec_payload_jitter.specs.declared.numbers.WindowError.TheVariants as windows
+use Rattle.codec_payload_numbers.specs.Numbers.{IsNumbering, Numbering, no_numbers, numbering_within}
+use Rattle.codec_payload_numbers.specs.declared.numbers.WindowError.{WindowError}
+use Rattle.codec_payload_numbers.specs.declared.numbers.WindowError.TheVariants as windows
 use Rattle.codec_payload_receiver.specs.Sessions.{Session, red_within, retransmission_fits, session_by, session_in, session_with, session_within}
-use Rattle.codec_payload_receiver.specs.declared.datagram.RedStream.{RedStream}
+use Rattle.codec_payload_datagrams.specs.declared.kinds.RedStream.{RedStream}
 use Rattle.codec_payload_receiver.specs.declared.receiver.Settings.{Settings}
 use Rattle.codec_payload_receiver.specs.declared.receiver.SettingsError.{SettingsError}
 use Rattle.codec_payload_receiver.specs.declared.receiver.SettingsError.TheVariants as settings

@@ -5,12 +5,12 @@ use Rattle.std.proofs.lemmas.Bool.{le-ltb, lt-ltb}
 use Rattle.std.proofs.lemmas.Option.{slice_get_within}
 use Rattle.codec_payload_buffer.proofs.MemberLemmas.{IsIn, contains_in, in_contains}
 use Rattle.codec_payload_buffer.specs.Steps.{State, empty_buffer}
-use Rattle.codec_payload_buffer.specs.declared.buffer.unit.RtpMeta.{RtpMeta}
+use Rattle.codec_payload_metadata.specs.declared.meta.RtpMeta.{RtpMeta}
 use Rattle.codec_payload_codec.specs.Depacketizers.{DepacketizerKind, DepacketizerState, tail_in}
 use Rattle.codec_payload_codec.specs.Packetizers.{may_split, payloads_by}
-use Rattle.codec_payload_jitter.specs.NotedTimes.{AreTimesOf}
+use Rattle.codec_payload_numbers.specs.NotedTimes.{AreTimesOf}
 use Rattle.codec_payload_jitter.specs.Receiving.{Receiving}
-use Rattle.codec_payload_jitter.specs.Numbers.{IsNumbering, Numbering, no_numbers}
+use Rattle.codec_payload_numbers.specs.Numbers.{IsNumbering, Numbering, no_numbers}
 use Rattle.codec_payload_rtp.specs.declared.values.ExtensionIds.{ExtensionIds}
 use Rattle.codec_payload_buffer_runs.proofs.order.ArrivalLemmas.{AllKnown}
 use Rattle.codec_payload_buffer_runs.proofs.order.RunSettings.{setting}
@@ -36,7 +36,7 @@ use Rattle.codec_payload_datagram_runs.proofs.BegunNumbers.{AllBelow, all_begun,
 use Rattle.codec_payload_datagram_runs.proofs.Courses.{proceeds}
 use Rattle.codec_payload_datagram_runs.proofs.EventLemmas.{AllAtOnce, AllTimed, Brings, HasLog, IsRead, delivery_of, met_by, numbering_through, split_at_end, times_from}
 use Rattle.codec_payload_datagram_runs.proofs.TimelyLemmas.{StayTimely, stay_timely, time_in}
-use Rattle.codec_payload_jitter.specs.declared.noted_times.NotedTime.{NotedTime}
+use Rattle.codec_payload_numbers.specs.declared.noted_times.NotedTime.{NotedTime}
 use Rattle.codec_payload_datagram_runs.proofs.LogLemmas.{log_known}
 use Rattle.codec_payload_datagram_runs.proofs.ReceivingLemmas.{AllNumbered, IsListening, KeepsLimits}
 use Rattle.codec_payload_datagram_runs.proofs.SendingLemmas.{SendsRun, running, same_count, sends_run}

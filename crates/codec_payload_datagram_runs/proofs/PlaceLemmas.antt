@@ -2,8 +2,8 @@
 use Rattle.std.proofs.Common.{◌≡◌, ◌∙◌, refl, sym, ap, subst, ℕ, zero, suc, ◌+◌, ◌≤◌, List, [], ◌∷◌, ◌++◌, Bool, Some, arith, length, take, append_assoc}
 use Rattle.std.specs.Prelude.{slice_get}
 use Rattle.std.proofs.lemmas.List.{length-append}
-use Rattle.codec_payload_buffer.specs.Release.{Release}
-use Rattle.codec_payload_buffer.specs.declared.buffer.unit.RtpMeta.{RtpMeta}
+use Rattle.codec_payload_metadata.specs.Release.{Release}
+use Rattle.codec_payload_metadata.specs.declared.meta.RtpMeta.{RtpMeta}
 use Rattle.codec_payload_buffer_runs.specs.Headline.{ArePushesBy, IsUnitAt, packets_before}
 use Rattle.codec_payload_buffer_runs.specs.SentStream.{SentUnit, packets_of}
 use Rattle.codec_payload_payloader.specs.Packets.{Packet}

@@ -13,8 +13,8 @@ use Rattle.codec_payload_rtp.specs.declared.rtp.RtpError.{RtpError}
 use Rattle.codec_payload_rtp.specs.declared.rtp.RtpError.TheVariants as errors
 use Rattle.codec_payload_sending.specs.Datagrams.{header_with}
 use Rattle.codec_payload_sending.specs.declared.sender.Outgoing.{Outgoing}
-use Rattle.codec_payload_receiver.specs.Kinds.{Again, Kinds, Original, WithMedia, again_read, datagram_at, is_other, is_sent_again}
-use Rattle.codec_payload_receiver.specs.declared.receiver.Retransmission.{Retransmission}
+use Rattle.codec_payload_datagrams.specs.Kinds.{Again, Kinds, Original, WithMedia, again_read, datagram_at, is_other, is_sent_again}
+use Rattle.codec_payload_datagrams.specs.declared.kinds.Retransmission.{Retransmission}
 use Rattle.codec_payload_datagram_runs.specs.Releases.{ReadsAs, is_sent_again_by}
 
 where_true : {A : Type 0} (b : Bool) (r : Result A RtpError) (d : RtpError) (y : A) → cond b r (Err d) ≡ Ok y → r ≡ Ok y

@@ -7,7 +7,7 @@ use Rattle.codec_payload_base.specs.declared.wire.Ticks.{Ticks}
 use Rattle.codec_payload_codec.specs.Depacketizers.{is_built_in_depacketizer}
 use Rattle.codec_payload_codec.specs.Packetizers.{NullPacketizing}
 use Rattle.codec_payload_buffer.specs.Steps.{State, arrived, pushed, Pops}
-use Rattle.codec_payload_buffer.specs.declared.buffer.unit.RtpMeta.{RtpMeta}
+use Rattle.codec_payload_metadata.specs.declared.meta.RtpMeta.{RtpMeta}
 use Rattle.codec_payload_sending_history.specs.Histories.{IsRetransmission}
 use Rattle.codec_payload_sending_history.specs.declared.retransmission.RetransmissionStream.{RetransmissionStream}
 use Rattle.codec_payload_buffer_runs.proofs.units.BuiltInRuns.{pop_exactly, push_keeps}
@@ -15,23 +15,23 @@ use Rattle.codec_payload_buffer_runs.specs.Arrivals.{PopsWaiting, Tells}
 use Rattle.codec_payload_payloader.specs.Packets.{Packet}
 use Rattle.codec_payload_buffer_runs.specs.Schedule.{Answer, RunState, run_state}
 use Rattle.codec_payload_jitter.specs.NoMediaNumbers.{passed_no_media, no_media_left}
-use Rattle.codec_payload_jitter.specs.NotedTimes.{AreTimesOf, is_untimely, noted_with}
-use Rattle.codec_payload_jitter.specs.Numbers.{Numbering, answer_for, number_within, numbering_after, numbering_with}
+use Rattle.codec_payload_numbers.specs.NotedTimes.{AreTimesOf, is_untimely, noted_with}
+use Rattle.codec_payload_numbers.specs.Numbers.{Numbering, answer_for, number_within, numbering_after, numbering_with}
 use Rattle.codec_payload_jitter.specs.Receiving.{Arrival, GoesOn, PopsWith, Receives, ReceivesAgain, ReceivesAgainAs, ReceivesAs, Receiving}
 use Rattle.codec_payload_jitter.specs.Receiving.{answer_to, counted_in_again, first_with, is_starting, meta_for, number_again_for, numbered, settled, waiting_at, with_first, with_noted, would_store}
 use Rattle.codec_payload_jitter.specs.Waiting.{most_held_back}
 use Rattle.codec_payload_jitter.proofs.RestartLemmas.{again_without_former, answer_to_is}
-use Rattle.codec_payload_jitter.proofs.TimesLemmas.{still_times}
-use Rattle.codec_payload_jitter.specs.declared.noted_times.NotedTime.{NotedTime}
-use Rattle.codec_payload_jitter.specs.declared.numbers.Extended.{Extended}
-use Rattle.codec_payload_jitter.specs.declared.numbers.Extended.TheVariants as extended
+use Rattle.codec_payload_numbers.proofs.TimesLemmas.{still_times}
+use Rattle.codec_payload_numbers.specs.declared.noted_times.NotedTime.{NotedTime}
+use Rattle.codec_payload_numbers.specs.declared.numbers.Extended.{Extended}
+use Rattle.codec_payload_numbers.specs.declared.numbers.Extended.TheVariants as extended
 use Rattle.codec_payload_jitter.specs.declared.outcome.Outcome.{Outcome}
 use Rattle.codec_payload_jitter.specs.declared.outcome.PacketCounters.{PacketCounters}
 use Rattle.codec_payload_sending.specs.declared.sender.Outgoing.{Outgoing}
-use Rattle.codec_payload_receiver.specs.Kinds.{Again, Datagram, Kinds, WithMedia, datagram_at, header_for, is_other}
-use Rattle.codec_payload_receiver.specs.Choice.{is_silent, origin_of, verdict_of}
+use Rattle.codec_payload_datagrams.specs.Kinds.{Again, Datagram, Kinds, WithMedia, datagram_at, header_for, is_other}
+use Rattle.codec_payload_datagrams.specs.Choice.{is_silent, origin_of, verdict_of}
 use Rattle.codec_payload_receiver.specs.Sessions.{Ends, Heard, Hears, ReceivesBy, ReceivesBytes, Session, SettlesOn, TakesAgain, TakesMedia, ended, first_waiting, is_none_of, is_open, is_repeat, packet_seen}
-use Rattle.codec_payload_receiver.specs.declared.choice.Candidate.{Candidate}
+use Rattle.codec_payload_datagrams.specs.declared.choice.Candidate.{Candidate}
 use Rattle.codec_payload_receiver.specs.Pops.{PopsOnce}
 use Rattle.codec_payload_receiver.specs.declared.receiver.ReceiveError.TheVariants as refusals
 use Rattle.codec_payload_receiver.proofs.PopLemmas.{drops_stay, pops_at_once}

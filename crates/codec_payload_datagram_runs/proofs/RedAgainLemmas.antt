@@ -16,9 +16,9 @@ use Rattle.codec_payload_sending_history.specs.Histories.{IsRetransmission}
 use Rattle.codec_payload_sending_history.specs.declared.retransmission.RetransmissionStream.{RetransmissionStream}
 use Rattle.codec_payload_sending_red.specs.Writers.{IsInRed, Writer, type_for}
 use Rattle.codec_payload_sending.specs.declared.sender.Outgoing.{Outgoing}
-use Rattle.codec_payload_receiver.specs.Kinds.{AgainInRed, Carrier, Kinds, carrier_with, datagram_at, is_sent_again, red_again_of, red_again_parts}
-use Rattle.codec_payload_receiver.specs.declared.datagram.RedStream.{RedStream}
-use Rattle.codec_payload_receiver.specs.declared.receiver.Retransmission.{Retransmission}
+use Rattle.codec_payload_datagrams.specs.Kinds.{AgainInRed, Carrier, Kinds, carrier_with, datagram_at, is_sent_again, red_again_of, red_again_parts}
+use Rattle.codec_payload_datagrams.specs.declared.kinds.RedStream.{RedStream}
+use Rattle.codec_payload_datagrams.specs.declared.kinds.Retransmission.{Retransmission}
 use Rattle.codec_payload_datagram_runs.proofs.ReadingLemmas.{is_no_rtcp, packet_at}
 use Rattle.codec_payload_datagram_runs.specs.RedHistoryReleases.{HearsRedAgain}
 

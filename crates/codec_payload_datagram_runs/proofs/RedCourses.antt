@@ -7,7 +7,7 @@ use Rattle.codec_payload_base.specs.declared.wire.Ticks.{Ticks}
 use Rattle.codec_payload_buffer.specs.Blanks.{is_right_after, passed_number}
 use Rattle.codec_payload_buffer.specs.Held.{AllAbove, Held, IsAboveCutoff, has_number, number_of}
 use Rattle.codec_payload_buffer.specs.Steps.{State, arrived, pushed}
-use Rattle.codec_payload_buffer.specs.declared.buffer.unit.RtpMeta.{RtpMeta}
+use Rattle.codec_payload_metadata.specs.declared.meta.RtpMeta.{RtpMeta}
 use Rattle.codec_payload_codec.specs.Depacketizers.{DepacketizerKind}
 use Rattle.codec_payload_jitter.specs.NoMediaNumbers.{is_done, passed_no_media}
 use Rattle.codec_payload_buffer_runs.proofs.order.HoldBackLemmas.{beyond_with}

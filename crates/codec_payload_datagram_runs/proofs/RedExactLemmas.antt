@@ -11,14 +11,14 @@ use Rattle.codec_payload_base.specs.declared.wire.Ticks.{Ticks}
 use Rattle.codec_payload_buffer.proofs.MemberLemmas.{IsIn, contains_in}
 use Rattle.codec_payload_buffer.specs.Held.{Held, has_number, number_of}
 use Rattle.codec_payload_buffer.specs.Steps.{State, arrived, is_at_most, is_dropped, pushed}
-use Rattle.codec_payload_buffer.specs.declared.buffer.unit.RtpMeta.{RtpMeta}
+use Rattle.codec_payload_metadata.specs.declared.meta.RtpMeta.{RtpMeta}
 use Rattle.codec_payload_jitter.specs.NoMediaNumbers.{is_in}
-use Rattle.codec_payload_jitter.specs.Numbers.{Numbering, ahead, answer_by, answer_for, behind, greater, number_within, numbering_after, numbering_with}
+use Rattle.codec_payload_numbers.specs.Numbers.{Numbering, ahead, answer_by, answer_for, behind, greater, number_within, numbering_after, numbering_with}
 use Rattle.codec_payload_jitter.proofs.RestartLemmas.{again_without_former}
 use Rattle.codec_payload_jitter.specs.Receiving.{Arrival, Receiving, RecoversAs, RecoversIf}
 use Rattle.codec_payload_jitter.specs.Receiving.{is_stored, may_recover, meta_for, number_again, number_again_for, outcome_at, settled, would_store, would_store_at}
-use Rattle.codec_payload_jitter.specs.declared.numbers.Extended.{Extended}
-use Rattle.codec_payload_jitter.specs.declared.numbers.Extended.TheVariants as extended
+use Rattle.codec_payload_numbers.specs.declared.numbers.Extended.{Extended}
+use Rattle.codec_payload_numbers.specs.declared.numbers.Extended.TheVariants as extended
 use Rattle.codec_payload_jitter.specs.declared.outcome.Outcome.TheVariants as outcomes
 use Rattle.codec_payload_red.specs.RedLevels.{Entry}
 use Rattle.codec_payload_red.specs.RedRun.{AreStepApart, IsKeptIn}
@@ -34,7 +34,7 @@ use Rattle.codec_payload_buffer_runs.specs.RedSchedule.{all_remembered, remember
 use Rattle.codec_payload_buffer_runs.specs.Schedule.{Answer}
 use Rattle.codec_payload_buffer_runs.specs.SentStream.{SentUnit, packets_of}
 use Rattle.codec_payload_payloader.specs.Packets.{Packet}
-use Rattle.codec_payload_receiver.specs.SeenTimes.{Seen, has_block, is_seen, none_seen, seen_with}
+use Rattle.codec_payload_numbers.specs.SeenTimes.{Seen, has_block, is_seen, none_seen, seen_with}
 use Rattle.codec_payload_receiver.specs.Sessions.{Holding, RecoversAll, RecoversUnseen, Session}
 use Rattle.codec_payload_receiver.specs.Sessions.{block_seen, ended, is_repeat}
 use Rattle.codec_payload_datagram_runs.proofs.Courses.{IsCopy}

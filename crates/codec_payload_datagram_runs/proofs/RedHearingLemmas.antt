@@ -8,14 +8,14 @@ use Rattle.codec_payload_base.specs.declared.error.PacketError.TheVariants as fa
 use Rattle.codec_payload_base.specs.declared.wire.Ticks.{Ticks}
 use Rattle.codec_payload_buffer.proofs.MemberLemmas.{IsIn, contains_in}
 use Rattle.codec_payload_buffer.specs.Steps.{State}
-use Rattle.codec_payload_buffer.specs.declared.buffer.unit.RtpMeta.{RtpMeta}
+use Rattle.codec_payload_metadata.specs.declared.meta.RtpMeta.{RtpMeta}
 use Rattle.codec_payload_codec.specs.Depacketizers.{is_built_in_depacketizer}
-use Rattle.codec_payload_jitter.specs.NotedTimes.{AreTimesOf}
-use Rattle.codec_payload_jitter.specs.Numbers.{Numbering, answer_for, numbering_after}
+use Rattle.codec_payload_numbers.specs.NotedTimes.{AreTimesOf}
+use Rattle.codec_payload_numbers.specs.Numbers.{Numbering, answer_for, numbering_after}
 use Rattle.codec_payload_jitter.specs.Receiving.{Arrival, Receives, Receiving}
 use Rattle.codec_payload_jitter.specs.Receiving.{settled, waiting_at}
-use Rattle.codec_payload_jitter.specs.declared.noted_times.NotedTime.{NotedTime}
-use Rattle.codec_payload_jitter.specs.declared.numbers.Extended.TheVariants as extended
+use Rattle.codec_payload_numbers.specs.declared.noted_times.NotedTime.{NotedTime}
+use Rattle.codec_payload_numbers.specs.declared.numbers.Extended.TheVariants as extended
 use Rattle.codec_payload_jitter.specs.declared.outcome.Outcome.{Outcome}
 use Rattle.codec_payload_red.proofs.RedRunLemmas.{fits_at, same_distances}
 use Rattle.codec_payload_red.specs.RedLevels.{Entry, is_accepted}
@@ -29,12 +29,12 @@ use Rattle.codec_payload_buffer_runs.specs.SentStream.{packets_of}
 use Rattle.codec_payload_payloader.specs.Packets.{AreNumbered, Packet}
 use Rattle.codec_payload_sending.specs.declared.sender.Outgoing.{Outgoing}
 use Rattle.codec_payload_receiver.proofs.PopLemmas.{drops_stay, pops_at_once}
-use Rattle.codec_payload_receiver.specs.Kinds.{Carrier, Datagram, Kinds, datagram_at, header_for}
+use Rattle.codec_payload_datagrams.specs.Kinds.{Carrier, Datagram, Kinds, datagram_at, header_for}
 use Rattle.codec_payload_receiver.specs.Pops.{PopsOnce}
 use Rattle.codec_payload_receiver.specs.RedOnce.{HasNoBlock}
 use Rattle.codec_payload_receiver.specs.Sessions.{Ends, Hears, Holding, RecoversAll, RecoversUnless, Session, SettlesOn, TakesPrimary, TakesPrimaryIf}
 use Rattle.codec_payload_receiver.specs.Sessions.{all_carried, ended, first_waiting, has_restarted, is_none_of, is_own_media, is_repeat, is_suspect, primary_seen}
-use Rattle.codec_payload_receiver.specs.declared.choice.Candidate.{Candidate}
+use Rattle.codec_payload_datagrams.specs.declared.choice.Candidate.{Candidate}
 use Rattle.codec_payload_datagram_runs.proofs.EventLemmas.{time_at}
 use Rattle.codec_payload_datagram_runs.proofs.TimelyLemmas.{StayTimely, stamp}
 use Rattle.codec_payload_datagram_runs.proofs.ReadingLemmas.{packet_at}
@@ -51,7 +51,7 @@ use Rattle.codec_payload_datagram_runs.specs.declared.run.DatagramStep.TheVarian
 use Rattle.codec_payload_sending_history.specs.Histories.{IsRetransmission}
 use Rattle.codec_payload_sending_history.specs.declared.retransmission.RetransmissionStream.{RetransmissionStream}
 use Rattle.codec_payload_jitter.specs.Receiving.{ReceivesAgain}
-use Rattle.codec_payload_receiver.specs.Kinds.{AgainInRed}
+use Rattle.codec_payload_datagrams.specs.Kinds.{AgainInRed}
 use Rattle.codec_payload_receiver.specs.Sessions.{TakesAgain, TakesPrimaryAgain, packet_seen, told_of_red}
 use Rattle.codec_payload_datagram_runs.proofs.Courses.{IsCopy}
 use Rattle.codec_payload_datagram_runs.proofs.RedAgainLemmas.{carrier_again, red_again_is}

@@ -2,7 +2,7 @@
 use Rattle.std.specs.Global.{Vec}
 use Rattle.std.proofs.Common.{◌≡◌, refl, sym, subst, ℕ, ◌+◌, ◌<◌, ◌≤◌, List, [], ◌∷◌, inl, inr, length, arith, lit<, lit≤}
 use Rattle.codec_payload_codec.specs.Depacketizers.{OpusDepacketizing}
-use Rattle.codec_payload_jitter.specs.Numbers.{no_numbers}
+use Rattle.codec_payload_numbers.specs.Numbers.{no_numbers}
 use Rattle.codec_payload_red.specs.RedRun.{IsRecoverable}
 use Rattle.codec_payload_sending_history.specs.declared.retransmission.Resent.{Resent}
 use Rattle.codec_payload_receiver.specs.declared.receiver.Settings.{Settings}

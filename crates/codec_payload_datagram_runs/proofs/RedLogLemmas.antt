@@ -8,10 +8,10 @@ use Rattle.codec_payload_buffer.specs.Steps.{State, is_dropped}
 use Rattle.codec_payload_buffer.specs.Stretches.{after_pushes}
 use Rattle.codec_payload_buffer.specs.declared.buffer.frames.CompleteFrame.{CompleteFrame}
 use Rattle.codec_payload_codec.specs.Depacketizers.{DepacketizerKind, DepacketizerState, kind_of_depacketizer}
-use Rattle.codec_payload_jitter.specs.Numbers.{Numbering, answer_for, greater, numbering_after, numbering_with}
+use Rattle.codec_payload_numbers.specs.Numbers.{Numbering, answer_for, greater, numbering_after, numbering_with}
 use Rattle.codec_payload_jitter.specs.Receiving.{Receiving, settled, waiting_at}
-use Rattle.codec_payload_jitter.specs.declared.numbers.Extended.{Extended}
-use Rattle.codec_payload_jitter.specs.declared.numbers.Extended.TheVariants as extended
+use Rattle.codec_payload_numbers.specs.declared.numbers.Extended.{Extended}
+use Rattle.codec_payload_numbers.specs.declared.numbers.Extended.TheVariants as extended
 use Rattle.codec_payload_buffer_runs.proofs.order.HoldBackLemmas.{beyond_with}
 use Rattle.codec_payload_buffer_runs.proofs.order.TurnLemmas.{ArePushes, IsReady, IsSpan, Setting, span_ready}
 use Rattle.codec_payload_buffer_runs.proofs.units.UnitRows.{held_as}
@@ -20,7 +20,7 @@ use Rattle.codec_payload_buffer_runs.specs.Log.{Stretch, Turn, begun, with_pushe
 use Rattle.codec_payload_buffer_runs.specs.Schedule.{Answer}
 use Rattle.codec_payload_buffer_runs.specs.SentStream.{packets_of}
 use Rattle.codec_payload_payloader.specs.Packets.{Packet}
-use Rattle.codec_payload_receiver.specs.SeenTimes.{none_seen}
+use Rattle.codec_payload_numbers.specs.SeenTimes.{none_seen}
 use Rattle.codec_payload_receiver.specs.Sessions.{Session, ended}
 use Rattle.codec_payload_datagram_runs.proofs.RedHearingLemmas.{deliver_fed, finish_is, pop_once, tuned_ended}
 use Rattle.codec_payload_datagram_runs.proofs.EventLemmas.{turn_at}

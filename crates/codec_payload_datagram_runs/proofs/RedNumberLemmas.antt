@@ -2,9 +2,9 @@
 use Rattle.std.proofs.Common.{◌≡◌, ◌∙◌, refl, sym, ap, ℕ, ◌+◌, ◌-◌, ◌%◌, ◌^◌, ◌<◌, ◌≤◌, Bool, true, false, cond, ltb, leb, max, Option, Some, None, arith}
 use Rattle.std.proofs.lemmas.Bool.{leb-true, ltb-true}
 use Rattle.std.proofs.lemmas.Option.{same_Some}
-use Rattle.codec_payload_jitter.specs.Numbers.{Numbering, ahead, answer_by, answer_for, answer_near, behind, fitting, follows_suspect, greater, is_restarting, number_within, numbering_after, numbering_with}
-use Rattle.codec_payload_jitter.specs.declared.numbers.Extended.{Extended}
-use Rattle.codec_payload_jitter.specs.declared.numbers.Extended.TheVariants as extended
+use Rattle.codec_payload_numbers.specs.Numbers.{Numbering, ahead, answer_by, answer_for, answer_near, behind, fitting, follows_suspect, greater, is_restarting, number_within, numbering_after, numbering_with}
+use Rattle.codec_payload_numbers.specs.declared.numbers.Extended.{Extended}
+use Rattle.codec_payload_numbers.specs.declared.numbers.Extended.TheVariants as extended
 
 -- the numbering after a packet with the number n
 pub record IsPast (n backward : ℕ) (s : Numbering) : Type 0 where

@@ -5,15 +5,15 @@ use Rattle.codec_payload_base.specs.declared.wire.Ticks.{Ticks}
 use Rattle.codec_payload_buffer.specs.Held.{has_number}
 use Rattle.codec_payload_buffer.specs.Steps.{State, is_at_most}
 use Rattle.codec_payload_jitter.specs.Receiving.{Arrival, Receiving, outcome_at}
-use Rattle.codec_payload_jitter.specs.Numbers.{answer_for}
-use Rattle.codec_payload_jitter.specs.declared.numbers.Extended.TheVariants as extended
+use Rattle.codec_payload_numbers.specs.Numbers.{answer_for}
+use Rattle.codec_payload_numbers.specs.declared.numbers.Extended.TheVariants as extended
 use Rattle.codec_payload_jitter.specs.declared.outcome.Outcome.{Outcome}
 use Rattle.codec_payload_jitter.specs.declared.outcome.Outcome.TheVariants as outcomes
 use Rattle.codec_payload_sending_red.specs.Writers.{IsInRed, Writer}
 use Rattle.codec_payload_buffer_runs.proofs.order.SafetyLemmas.{number_at}
 use Rattle.codec_payload_buffer_runs.specs.SentStream.{packets_of}
 use Rattle.codec_payload_payloader.specs.Packets.{Packet}
-use Rattle.codec_payload_receiver.specs.SeenTimes.{Seen, none_seen, seen_with}
+use Rattle.codec_payload_numbers.specs.SeenTimes.{Seen, none_seen, seen_with}
 use Rattle.codec_payload_receiver.specs.Sessions.{Holding, RecoversAll, RecoversUnless, Session}
 use Rattle.codec_payload_receiver.specs.Sessions.{all_carried, is_repeat, is_restart, is_suspect, packet_seen, told_of_red}
 use Rattle.codec_payload_receiver.specs.declared.receiver.ReceiveError.TheVariants as refusals

@@ -13,11 +13,11 @@ use Rattle.codec_payload_buffer.specs.Steps.{State, arrived, is_at_most, is_drop
 use Rattle.codec_payload_buffer.specs.Stretches.{after_pushes}
 use Rattle.codec_payload_codec.specs.Depacketizers.{DepacketizerState}
 use Rattle.codec_payload_jitter.specs.NoMediaNumbers.{is_in}
-use Rattle.codec_payload_jitter.specs.Numbers.{Numbering, ahead, answer_by, answer_for, behind, fitting, follows_suspect, is_restarting, number_within, numbering_after}
+use Rattle.codec_payload_numbers.specs.Numbers.{Numbering, ahead, answer_by, answer_for, behind, fitting, follows_suspect, is_restarting, number_within, numbering_after}
 use Rattle.codec_payload_jitter.proofs.RestartLemmas.{again_without_former}
 use Rattle.codec_payload_jitter.specs.Receiving.{Arrival, Receiving, RecoversAs, RecoversIf}
 use Rattle.codec_payload_jitter.specs.Receiving.{is_stored, may_recover, meta_for, number_again_for, outcome_at, would_store}
-use Rattle.codec_payload_jitter.specs.declared.numbers.Extended.TheVariants as extended
+use Rattle.codec_payload_numbers.specs.declared.numbers.Extended.TheVariants as extended
 use Rattle.codec_payload_jitter.specs.declared.outcome.Outcome.TheVariants as outcomes
 use Rattle.codec_payload_red.specs.RedLevels.{Entry}
 use Rattle.codec_payload_red.specs.RedRun.{IsKeptIn}
@@ -27,7 +27,7 @@ use Rattle.codec_payload_buffer_runs.proofs.units.BuiltInRuns.{push_keeps}
 use Rattle.codec_payload_buffer_runs.specs.RedSchedule.{all_remembered}
 use Rattle.codec_payload_buffer_runs.specs.SentStream.{packets_of}
 use Rattle.codec_payload_payloader.specs.Packets.{Packet}
-use Rattle.codec_payload_receiver.specs.SeenTimes.{Seen, has_block, is_seen, seen_with}
+use Rattle.codec_payload_numbers.specs.SeenTimes.{Seen, has_block, is_seen, seen_with}
 use Rattle.codec_payload_receiver.specs.Sessions.{Holding, RecoversAll, RecoversUnseen, Session, block_seen, is_repeat}
 use Rattle.codec_payload_datagram_runs.proofs.Courses.{IsCopy}
 use Rattle.codec_payload_datagram_runs.proofs.RedNumberLemmas.{IsPast}

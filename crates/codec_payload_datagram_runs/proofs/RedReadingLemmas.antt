@@ -25,10 +25,10 @@ use Rattle.codec_payload_rtp.specs.RtpReading.{rtp_at}
 use Rattle.codec_payload_buffer_runs.specs.RedSchedule.{all_remembered, remembered}
 use Rattle.codec_payload_payloader.specs.Packets.{Packet}
 use Rattle.codec_payload_sending.specs.declared.sender.Outgoing.{Outgoing}
-use Rattle.codec_payload_receiver.specs.Kinds.{Carrier, InRed, Kinds, carrier_with, datagram_at, is_other, is_sent_again, red_again_of, red_of}
+use Rattle.codec_payload_datagrams.specs.Kinds.{Carrier, InRed, Kinds, carrier_with, datagram_at, is_other, is_sent_again, red_again_of, red_of}
 use Rattle.codec_payload_receiver.specs.Sessions.{all_carried, block_arrival}
-use Rattle.codec_payload_receiver.specs.declared.datagram.RedStream.{RedStream}
-use Rattle.codec_payload_receiver.specs.declared.receiver.Retransmission.{Retransmission}
+use Rattle.codec_payload_datagrams.specs.declared.kinds.RedStream.{RedStream}
+use Rattle.codec_payload_datagrams.specs.declared.kinds.Retransmission.{Retransmission}
 use Rattle.codec_payload_datagram_runs.proofs.ReadingLemmas.{is_no_rtcp, packet_at}
 use Rattle.codec_payload_datagram_runs.specs.RedReleases.{entries_in, entry_read, is_ssrc_of}
 use Rattle.codec_payload_datagram_runs.specs.RedRuns.{WritesAll}

@@ -9,16 +9,16 @@ use Rattle.codec_payload_base.specs.declared.wire.RtpHeader.{RtpHeader}
 use Rattle.codec_payload_base.specs.declared.wire.Ticks.{Ticks}
 use Rattle.codec_payload_buffer.specs.Held.{Held}
 use Rattle.codec_payload_buffer.specs.Steps.{State, arrived, pushed}
-use Rattle.codec_payload_buffer.specs.declared.buffer.unit.RtpMeta.{RtpMeta}
+use Rattle.codec_payload_metadata.specs.declared.meta.RtpMeta.{RtpMeta}
 use Rattle.codec_payload_codec.specs.Depacketizers.{is_built_in_depacketizer}
 use Rattle.codec_payload_jitter.proofs.RestartLemmas.{again_without_former, answer_in_is, answer_to_is}
-use Rattle.codec_payload_jitter.specs.NotedTimes.{AreTimesOf, first_or, is_untimely}
-use Rattle.codec_payload_jitter.specs.Numbers.{Numbering, answer_for, greater, number_within, numbering_after, numbering_with}
+use Rattle.codec_payload_numbers.specs.NotedTimes.{AreTimesOf, first_or, is_untimely}
+use Rattle.codec_payload_numbers.specs.Numbers.{Numbering, answer_for, greater, number_within, numbering_after, numbering_with}
 use Rattle.codec_payload_jitter.specs.Receiving.{Arrival, GoesOn, Notes, NotesAs, Receives, ReceivesAs, Receiving, RecoversAs, RecoversIf}
 use Rattle.codec_payload_jitter.specs.Receiving.{answer_in, answer_to, first_past, first_with, may_recover, meta_for, number_again_for, outcome_at}
-use Rattle.codec_payload_jitter.specs.declared.noted_times.NotedTime.{NotedTime}
-use Rattle.codec_payload_jitter.specs.declared.numbers.Extended.{Extended}
-use Rattle.codec_payload_jitter.specs.declared.numbers.Extended.TheVariants as extended
+use Rattle.codec_payload_numbers.specs.declared.noted_times.NotedTime.{NotedTime}
+use Rattle.codec_payload_numbers.specs.declared.numbers.Extended.{Extended}
+use Rattle.codec_payload_numbers.specs.declared.numbers.Extended.TheVariants as extended
 use Rattle.codec_payload_jitter.specs.declared.outcome.Outcome.{Outcome}
 use Rattle.codec_payload_red.proofs.RedRunLemmas.{fits_at, same_distances}
 use Rattle.codec_payload_red.specs.RedLevels.{Entry, Sender, is_accepted, recorded}
@@ -32,13 +32,13 @@ use Rattle.codec_payload_buffer_runs.specs.SentStream.{packets_of}
 use Rattle.codec_payload_payloader.specs.Packets.{AreNumbered, Packet}
 use Rattle.codec_payload_rtp.specs.RtpPackets.{Header}
 use Rattle.codec_payload_sending.specs.declared.sender.Outgoing.{Outgoing}
-use Rattle.codec_payload_receiver.specs.Choice.{is_silent, origin_of, verdict_of}
-use Rattle.codec_payload_receiver.specs.Kinds.{Carrier, Datagram, InRed, Kinds, datagram_at, header_for, is_other}
+use Rattle.codec_payload_datagrams.specs.Choice.{is_silent, origin_of, verdict_of}
+use Rattle.codec_payload_datagrams.specs.Kinds.{Carrier, Datagram, InRed, Kinds, datagram_at, header_for, is_other}
 use Rattle.codec_payload_receiver.specs.RedOnce.{HasNoBlock}
-use Rattle.codec_payload_receiver.specs.SeenTimes.{Seen, is_seen}
+use Rattle.codec_payload_numbers.specs.SeenTimes.{Seen, is_seen}
 use Rattle.codec_payload_receiver.specs.Sessions.{Heard, Hears, Holding, ReceivesBy, ReceivesBytes, RecoversAll, RecoversUnless, RecoversUnseen, Session}
 use Rattle.codec_payload_receiver.specs.Sessions.{is_none_of, is_open, is_own_media}
-use Rattle.codec_payload_receiver.specs.declared.datagram.RedStream.{RedStream}
+use Rattle.codec_payload_datagrams.specs.declared.kinds.RedStream.{RedStream}
 use Rattle.codec_payload_datagram_runs.proofs.EventLemmas.{time_at, times_from}
 use Rattle.codec_payload_datagram_runs.proofs.TimelyLemmas.{StayTimely, stamp, time_in, timely_later, timely_now, untimely_is}
 use Rattle.codec_payload_datagram_runs.proofs.ReadingLemmas.{packet_at}

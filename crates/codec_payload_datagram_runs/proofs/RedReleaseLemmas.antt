@@ -5,16 +5,16 @@ use Rattle.std.proofs.lemmas.Bool.{and_parts, eq-eqb, leb-true}
 use Rattle.std.proofs.lemmas.Option.{slice_get_within}
 use Rattle.codec_payload_base.specs.declared.wire.Ticks.{Ticks}
 use Rattle.codec_payload_buffer.proofs.MemberLemmas.{IsIn, contains_in, in_contains, in_right}
-use Rattle.codec_payload_buffer.specs.ContiguityTable.{contiguity_for}
+use Rattle.codec_payload_contiguity.specs.ContiguityTable.{contiguity_for}
 use Rattle.codec_payload_buffer.specs.Held.{Held, has_number}
-use Rattle.codec_payload_buffer.specs.declared.buffer.unit.RtpMeta.{RtpMeta}
+use Rattle.codec_payload_metadata.specs.declared.meta.RtpMeta.{RtpMeta}
 use Rattle.codec_payload_codec.proofs.CodecLemmas.{codec_payloads, marker_free}
 use Rattle.codec_payload_codec.specs.Depacketizers.{DepacketizerKind, DepacketizerState, is_built_in_depacketizer, is_codec, kind_of_depacketizer}
 use Rattle.codec_payload_codec.specs.Packetizers.{PacketizerState, Vp9Packetizing, is_video, may_split, payloads_by}
-use Rattle.codec_payload_jitter.specs.NotedTimes.{AreTimesOf}
-use Rattle.codec_payload_jitter.specs.Numbers.{Numbering, no_numbers, numbering_within}
-use Rattle.codec_payload_jitter.specs.declared.numbers.WindowError.{WindowError}
-use Rattle.codec_payload_jitter.specs.declared.numbers.WindowError.TheVariants as windows
+use Rattle.codec_payload_numbers.specs.NotedTimes.{AreTimesOf}
+use Rattle.codec_payload_numbers.specs.Numbers.{Numbering, no_numbers, numbering_within}
+use Rattle.codec_payload_numbers.specs.declared.numbers.WindowError.{WindowError}
+use Rattle.codec_payload_numbers.specs.declared.numbers.WindowError.TheVariants as windows
 use Rattle.codec_payload_red.specs.RedRun.{IsRecoverable}
 use Rattle.codec_payload_sending_history.specs.declared.retransmission.RetransmissionStream.{RetransmissionStream}
 use Rattle.codec_payload_sending_red.specs.Writers.{Writer}
@@ -36,9 +36,9 @@ use Rattle.codec_payload_buffer_runs.specs.declared.run.Step.{Step}
 use Rattle.codec_payload_payloader.specs.Packets.{Packet}
 use Rattle.codec_payload_payloader.specs.Sending.{Sample}
 use Rattle.codec_payload_sending.specs.Senders.{Sending}
-use Rattle.codec_payload_receiver.specs.SeenTimes.{is_seen, none_seen}
+use Rattle.codec_payload_numbers.specs.SeenTimes.{is_seen, none_seen}
 use Rattle.codec_payload_receiver.specs.Sessions.{Session, red_by, red_within, retransmission_fits, session_by, session_in, session_with, session_within}
-use Rattle.codec_payload_receiver.specs.declared.datagram.RedStream.{RedStream}
+use Rattle.codec_payload_datagrams.specs.declared.kinds.RedStream.{RedStream}
 use Rattle.codec_payload_receiver.specs.declared.receiver.RedSettings.{RedSettings}
 use Rattle.codec_payload_receiver.specs.declared.receiver.Settings.{Settings}
 use Rattle.codec_payload_receiver.specs.declared.receiver.SettingsError.{SettingsError}

@@ -4,7 +4,7 @@ use Rattle.std.proofs.Common.{◌≡◌, refl, sym, subst, ℕ, zero, suc, ◌+�
 use Rattle.std.specs.Prelude.{Contains}
 use Rattle.std.proofs.Math.Nat.{mul-le-mul_left}
 use Rattle.codec_payload_codec.specs.Depacketizers.{OpusDepacketizing}
-use Rattle.codec_payload_jitter.specs.Numbers.{no_numbers}
+use Rattle.codec_payload_numbers.specs.Numbers.{no_numbers}
 use Rattle.codec_payload_red.specs.RedLevels.{Entry, levels, within}
 use Rattle.codec_payload_red.specs.RedRun.{IsKeptIn, IsRecoverable}
 use Rattle.codec_payload_receiver.specs.declared.receiver.Settings.{Settings}

@@ -21,7 +21,7 @@ use Rattle.codec_payload_buffer_runs.specs.Schedule.{Answer}
 use Rattle.codec_payload_buffer_runs.specs.SentStream.{packets_of}
 use Rattle.codec_payload_payloader.specs.Packets.{Packet}
 use Rattle.codec_payload_red.specs.RedLevels.{Entry}
-use Rattle.codec_payload_receiver.specs.SeenTimes.{Seen, is_seen, none_seen, seen_with}
+use Rattle.codec_payload_numbers.specs.SeenTimes.{Seen, is_seen, none_seen, seen_with}
 use Rattle.codec_payload_datagram_runs.proofs.RedExactLemmas.{SeenTime, entry_time, no_wrap, or_later}
 use Rattle.codec_payload_datagram_runs.proofs.RedReceivingLemmas.{RedSide}
 

@@ -3,12 +3,12 @@
 use Rattle.std.proofs.Common.{◌≡◌, ◌∙◌, refl, sym, ap, subst, ℕ, ◌+◌, ◌-◌, ◌*◌, ◌/◌, ◌%◌, ◌^◌, ◌<◌, max, List, [], ◌∷◌, map, false, Bool, Option, None, Some, Ok, length, arith}
 use Rattle.std.proofs.lemmas.Option.{same_Some, slice_get_within}
 use Rattle.codec_payload_buffer.proofs.MemberLemmas.{contains_in, in_contains}
-use Rattle.codec_payload_buffer.specs.ContiguityTable.{contiguity_for}
+use Rattle.codec_payload_contiguity.specs.ContiguityTable.{contiguity_for}
 use Rattle.codec_payload_buffer.specs.Steps.{State}
 use Rattle.codec_payload_codec.specs.Depacketizers.{DepacketizerKind, DepacketizerState, is_built_in_depacketizer, is_codec, kind_of_depacketizer, tail_in}
 use Rattle.codec_payload_codec.proofs.CodecLemmas.{codec_payloads}
 use Rattle.codec_payload_codec.specs.Packetizers.{payloads_by, may_split}
-use Rattle.codec_payload_buffer.specs.declared.buffer.unit.RtpMeta.{RtpMeta}
+use Rattle.codec_payload_metadata.specs.declared.meta.RtpMeta.{RtpMeta}
 use Rattle.codec_payload_sending_history.specs.declared.retransmission.RetransmissionStream.{RetransmissionStream}
 use Rattle.codec_payload_buffer_runs.proofs.order.ArrivalLemmas.{AllKnown, met_all, met_in_order}
 use Rattle.codec_payload_buffer_runs.proofs.units.BuiltInRuns.{plainly, unused_exactly}
@@ -29,11 +29,11 @@ use Rattle.codec_payload_payloader.specs.Packets.{AreNumbered, Packet}
 use Rattle.codec_payload_buffer_runs.specs.Schedule.{Answer, RunState}
 use Rattle.codec_payload_payloader.specs.Sending.{Sample}
 use Rattle.codec_payload_buffer_runs.specs.ReportedIds.{read_by}
-use Rattle.codec_payload_jitter.specs.NotedTimes.{AreTimesOf}
-use Rattle.codec_payload_jitter.proofs.NumbersLemmas.{are_true_numbers, none_restarts}
-use Rattle.codec_payload_jitter.specs.Numbers.{StayNear, GoOn, IsNumbering, Numbering, answer_for, numbering_after, is_restart, low_bits, moved, no_numbers, number_for, number_in, numbers_for}
-use Rattle.codec_payload_jitter.specs.declared.numbers.Extended.{Extended}
-use Rattle.codec_payload_jitter.specs.declared.numbers.Extended.TheVariants as extended
+use Rattle.codec_payload_numbers.specs.NotedTimes.{AreTimesOf}
+use Rattle.codec_payload_numbers.proofs.NumbersLemmas.{are_true_numbers, none_restarts}
+use Rattle.codec_payload_numbers.specs.Numbers.{StayNear, GoOn, IsNumbering, Numbering, answer_for, numbering_after, is_restart, low_bits, moved, no_numbers, number_for, number_in, numbers_for}
+use Rattle.codec_payload_numbers.specs.declared.numbers.Extended.{Extended}
+use Rattle.codec_payload_numbers.specs.declared.numbers.Extended.TheVariants as extended
 use Rattle.codec_payload_sending.specs.Senders.{Sending}
 use Rattle.codec_payload_receiver.specs.Sessions.{Session, session_by}
 use Rattle.codec_payload_receiver.specs.declared.receiver.Settings.{Settings}

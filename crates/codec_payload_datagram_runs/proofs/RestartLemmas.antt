@@ -3,14 +3,14 @@ use Rattle.std.proofs.Common.{◌≡◌, ◌∙◌, refl, sym, ap, subst, ℕ, �
 use Rattle.std.proofs.lemmas.List.{length-append, length-map}
 use Rattle.std.specs.Global.{Vec}
 use Rattle.std.specs.Prelude.{slice_get}
-use Rattle.codec_payload_buffer.specs.Release.{Release}
+use Rattle.codec_payload_metadata.specs.Release.{Release}
 use Rattle.codec_payload_buffer.specs.Held.{Held, IsAboveCutoff, Rises, number_of}
 use Rattle.codec_payload_buffer.specs.Steps.{State}
-use Rattle.codec_payload_buffer.specs.declared.buffer.unit.RtpMeta.{RtpMeta}
+use Rattle.codec_payload_metadata.specs.declared.meta.RtpMeta.{RtpMeta}
 use Rattle.codec_payload_codec.proofs.CodecLemmas.{codec_payloads}
 use Rattle.codec_payload_codec.specs.Depacketizers.{DepacketizerKind, DepacketizerState, is_built_in_depacketizer, is_codec, kind_of_depacketizer}
 use Rattle.codec_payload_codec.specs.Packetizers.{facts_of}
-use Rattle.codec_payload_jitter.specs.NotedTimes.{AreTimesOf}
+use Rattle.codec_payload_numbers.specs.NotedTimes.{AreTimesOf}
 use Rattle.codec_payload_jitter.specs.Receiving.{Receiving}
 use Rattle.codec_payload_rtp.specs.declared.values.ExtensionIds.{ExtensionIds}
 use Rattle.codec_payload_buffer_runs.proofs.order.ArrivalLemmas.{AllKnown}
@@ -27,7 +27,7 @@ use Rattle.codec_payload_payloader.specs.Packets.{Packet}
 use Rattle.codec_payload_payloader.specs.Sending.{Sample}
 use Rattle.codec_payload_sending.specs.Senders.{Sending}
 use Rattle.codec_payload_receiver.proofs.BlockTimeLemmas.{new_has_no_block}
-use Rattle.codec_payload_receiver.specs.Kinds.{Kinds}
+use Rattle.codec_payload_datagrams.specs.Kinds.{Kinds}
 use Rattle.codec_payload_receiver.specs.RedOnce.{HasNoBlock}
 use Rattle.codec_payload_receiver.specs.Sessions.{Session}
 use Rattle.codec_payload_receiver.specs.declared.receiver.Settings.{Settings}

@@ -8,12 +8,12 @@ use Rattle.codec_payload_buffer.proofs.FrameParts.{BeginsWithHead, IsRun}
 use Rattle.codec_payload_buffer.proofs.FrontLemmas.{ends_here, goes_on, walk}
 use Rattle.codec_payload_buffer.specs.Frames.{ended_at, frame_at, frames, frames_after, lowest_head, row_before}
 use Rattle.codec_payload_buffer.specs.Held.{AllAbove, Held, above, has_number, number_of}
-use Rattle.codec_payload_buffer.specs.Release.{Release}
+use Rattle.codec_payload_metadata.specs.Release.{Release}
 use Rattle.codec_payload_buffer.specs.Scan.{first_of}
 use Rattle.codec_payload_buffer.specs.Steps.{Passes, PassesOver, PopsOver, Releases, State, Unpacked, Unpacks, arrived, due_of, none, nothing_unpacked, one_more, packets_of_frame, pushed}
 use Rattle.codec_payload_buffer.specs.Stretches.{after_pushes}
 use Rattle.codec_payload_buffer.specs.declared.buffer.frames.CompleteFrame.{CompleteFrame}
-use Rattle.codec_payload_buffer.specs.declared.buffer.unit.RtpMeta.{RtpMeta}
+use Rattle.codec_payload_metadata.specs.declared.meta.RtpMeta.{RtpMeta}
 use Rattle.codec_payload_codec.proofs.CaseLemmas.{by_option}
 use Rattle.codec_payload_codec.specs.BaseLayers.{lacks_base}
 use Rattle.codec_payload_codec.specs.Depacketizers.{DepacketizerKind, DepacketizerState, kind_of_depacketizer}

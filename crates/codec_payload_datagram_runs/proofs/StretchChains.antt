@@ -11,11 +11,11 @@ use Rattle.codec_payload_buffer.proofs.PairLemmas.{pushed_sound}
 use Rattle.codec_payload_buffer.proofs.PopLemmas.{order_due, sound_left}
 use Rattle.codec_payload_buffer.proofs.StretchLemmas.{in_number, leaves_numbers, range_in}
 use Rattle.codec_payload_buffer.specs.Held.{Held, has_number, number_of}
-use Rattle.codec_payload_buffer.specs.Release.{Release}
+use Rattle.codec_payload_metadata.specs.Release.{Release}
 use Rattle.codec_payload_buffer.specs.Steps.{IsSound, Passes, Releases, State, due_of, is_at_most, none, one_more, pushed}
 use Rattle.codec_payload_buffer.specs.Stretches.{IsInRange, IsLeft, after_pushes, counts}
 use Rattle.codec_payload_buffer.specs.declared.buffer.frames.CompleteFrame.{CompleteFrame}
-use Rattle.codec_payload_buffer.specs.declared.buffer.unit.RtpMeta.{RtpMeta}
+use Rattle.codec_payload_metadata.specs.declared.meta.RtpMeta.{RtpMeta}
 use Rattle.codec_payload_codec.proofs.CaseLemmas.{by_test}
 use Rattle.codec_payload_buffer_runs.proofs.order.ContiguousLemmas.{due_higher}
 use Rattle.codec_payload_buffer_runs.proofs.order.TurnLemmas.{or_cases}

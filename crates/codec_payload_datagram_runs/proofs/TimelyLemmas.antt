@@ -2,12 +2,12 @@
 use Rattle.std.proofs.Common.{◌≡◌, ◌∙◌, refl, sym, ap, subst, ℕ, zero, suc, ◌+◌, ◌-◌, ◌*◌, ◌%◌, ◌^◌, ◌<◌, ◌≤◌, ◌&&◌, List, [], ◌∷◌, map, Bool, true, false, Option, Some, None, arith, ltb}
 use Rattle.std.specs.Prelude.{slice_index_or}
 use Rattle.std.proofs.lemmas.Bool.{ltb-true, le-ltb}
-use Rattle.codec_payload_jitter.specs.NotedTimes.{first_or, is_untimely}
-use Rattle.codec_payload_jitter.specs.Numbers.{number_in}
+use Rattle.codec_payload_numbers.specs.NotedTimes.{first_or, is_untimely}
+use Rattle.codec_payload_numbers.specs.Numbers.{number_in}
 use Rattle.codec_payload_jitter.specs.Receiving.{first_with}
-use Rattle.codec_payload_jitter.specs.declared.noted_times.NotedTime.{NotedTime}
-use Rattle.codec_payload_jitter.specs.declared.numbers.Extended.{Extended}
-use Rattle.codec_payload_jitter.specs.declared.numbers.Extended.TheVariants as extended
+use Rattle.codec_payload_numbers.specs.declared.noted_times.NotedTime.{NotedTime}
+use Rattle.codec_payload_numbers.specs.declared.numbers.Extended.{Extended}
+use Rattle.codec_payload_numbers.specs.declared.numbers.Extended.TheVariants as extended
 use Rattle.codec_payload_payloader.specs.Packets.{Packet}
 use Rattle.codec_payload_datagram_runs.specs.Releases.{AreTimely, ComeTimely}
 

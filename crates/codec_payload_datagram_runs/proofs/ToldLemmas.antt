@@ -7,18 +7,18 @@ use Rattle.codec_payload_base.specs.declared.wire.RtpHeader.{RtpHeader}
 use Rattle.codec_payload_base.specs.declared.wire.Ticks.{Ticks}
 use Rattle.codec_payload_buffer.specs.Held.{Held}
 use Rattle.codec_payload_buffer.specs.Steps.{State, arrived, pushed}
-use Rattle.codec_payload_buffer.specs.declared.buffer.unit.RtpMeta.{RtpMeta}
+use Rattle.codec_payload_metadata.specs.declared.meta.RtpMeta.{RtpMeta}
 use Rattle.codec_payload_codec.specs.Depacketizers.{is_built_in_depacketizer}
-use Rattle.codec_payload_jitter.specs.NotedTimes.{AreTimesOf, contradicts, is_untimely}
-use Rattle.codec_payload_jitter.specs.Numbers.{Numbering, answer_anew, begun_with, number_in}
+use Rattle.codec_payload_numbers.specs.NotedTimes.{AreTimesOf, contradicts, is_untimely}
+use Rattle.codec_payload_numbers.specs.Numbers.{Numbering, answer_anew, begun_with, number_in}
 use Rattle.codec_payload_jitter.proofs.FormerLemmas.{announced_leaves_none, goes_on_former, same_former}
 use Rattle.codec_payload_jitter.proofs.RestartLemmas.{answer_without_former}
 use Rattle.codec_payload_jitter.specs.Receiving.{Arrival, Confirms, GoesOn, PopsWith, Receives, ReceivesAs, Receiving}
 use Rattle.codec_payload_jitter.specs.Receiving.{answer_by_time, answer_in, answer_to, answer_to_contradiction, begun_anew, is_contradicted, numbered, settled, waiting_at, with_first}
 use Rattle.codec_payload_jitter.specs.Receiving as jitter
-use Rattle.codec_payload_jitter.specs.declared.noted_times.NotedTime.{NotedTime}
-use Rattle.codec_payload_jitter.specs.declared.numbers.Extended.{Extended}
-use Rattle.codec_payload_jitter.specs.declared.numbers.Extended.TheVariants as extended
+use Rattle.codec_payload_numbers.specs.declared.noted_times.NotedTime.{NotedTime}
+use Rattle.codec_payload_numbers.specs.declared.numbers.Extended.{Extended}
+use Rattle.codec_payload_numbers.specs.declared.numbers.Extended.TheVariants as extended
 use Rattle.codec_payload_jitter.specs.declared.outcome.Outcome.{Outcome}
 use Rattle.codec_payload_buffer_runs.specs.Arrivals.{Arrives, Asked, Event, Meets, PopsWaiting}
 use Rattle.codec_payload_buffer_runs.specs.Log.{Stretch, Turn, begun, with_pushes}
@@ -27,11 +27,11 @@ use Rattle.codec_payload_payloader.specs.Packets.{AreNumbered, Packet}
 use Rattle.codec_payload_sending.specs.declared.sender.Outgoing.{Outgoing}
 use Rattle.codec_payload_receiver.proofs.BlockTimeLemmas.{new_has_no_block, packet_has_no_block}
 use Rattle.codec_payload_receiver.proofs.PopLemmas.{drops_stay, pops_at_once}
-use Rattle.codec_payload_receiver.specs.Kinds.{Datagram, Kinds, WithMedia, datagram_at, under}
+use Rattle.codec_payload_datagrams.specs.Kinds.{Datagram, Kinds, WithMedia, datagram_at, under}
 use Rattle.codec_payload_receiver.specs.Pops.{PopsOnce}
 use Rattle.codec_payload_receiver.specs.RedOnce.{HasNoBlock}
 use Rattle.codec_payload_receiver.specs.Sessions.{Hears, Session, TakesMedia, ended, packet_seen}
-use Rattle.codec_payload_receiver.specs.declared.receiver.Retransmission.{Retransmission}
+use Rattle.codec_payload_datagrams.specs.declared.kinds.Retransmission.{Retransmission}
 use Rattle.codec_payload_datagram_runs.proofs.Courses.{IsCopy}
 use Rattle.codec_payload_datagram_runs.proofs.EventLemmas.{AllHaveValues, AllTimed, Brings, HasLog, IsMetOn, IsRead, met_by, numbering_through, packet_at_index, time_at, turn_at, values_asked, values_with}
 use Rattle.codec_payload_datagram_runs.proofs.TimelyLemmas.{StayTimely, time_in, timely_begun}

@@ -8,11 +8,11 @@ use Rattle.std.proofs.lemmas.List.{take-append-drop}
 use Rattle.codec_payload_buffer.proofs.MemberLemmas.{IsIn, KeysAbove, KeysRise}
 use Rattle.codec_payload_buffer.proofs.StretchLemmas.{in_range, range_rises}
 use Rattle.codec_payload_buffer.specs.Held.{AllAbove, Held, IsAboveCutoff, Rises, has_number, number_of}
-use Rattle.codec_payload_buffer.specs.Release.{Release}
+use Rattle.codec_payload_metadata.specs.Release.{Release}
 use Rattle.codec_payload_buffer.specs.Steps.{Gives, Passes, Releases, State, Unpacked, due_of, follows, is_at_most, none, one_more, starts_right_after}
 use Rattle.codec_payload_buffer.specs.Stretches.{IsLeft, counts, is_some_of, kept, last_or, left_out, stretch_numbers}
 use Rattle.codec_payload_buffer.specs.declared.buffer.frames.CompleteFrame.{CompleteFrame}
-use Rattle.codec_payload_buffer.specs.declared.contiguity.Contiguity.{Contiguity}
+use Rattle.codec_payload_contiguity.specs.declared.contiguity.Contiguity.{Contiguity}
 use Rattle.codec_payload_codec.specs.BaseLayers.{lacks_base}
 use Rattle.codec_payload_codec.specs.Depacketizers.{DepacketizerState}
 use Rattle.codec_payload_buffer_runs.proofs.order.ContiguousLemmas.{IsTracked, numbers_of}

@@ -11,7 +11,7 @@ use Rattle.codec_payload_sending_history.specs.declared.retransmission.Retransmi
 use Rattle.codec_payload_payloader.specs.Sending.{Sample}
 use Rattle.codec_payload_sending.specs.Senders.{Sending}
 use Rattle.codec_payload_receiver.specs.Sessions.{Session}
-use Rattle.codec_payload_receiver.specs.declared.receiver.Retransmission.{Retransmission}
+use Rattle.codec_payload_datagrams.specs.declared.kinds.Retransmission.{Retransmission}
 use Rattle.codec_payload_datagram_runs.specs.HistoryRuns.{HistoryRuns, Resending, begins_with}
 use Rattle.codec_payload_datagram_runs.specs.Releases.{IsWithinWindows, ReleasesUnits, sends_after, sent_after}
 use Rattle.codec_payload_datagram_runs.specs.WireLogs.{KeepsPromises}

@@ -7,7 +7,7 @@ use Rattle.codec_payload_sending_history.specs.Packets.{Past}
 use Rattle.codec_payload_sending_history.specs.declared.retransmission.HistorySettings.{HistorySettings}
 use Rattle.codec_payload_sending_history.specs.declared.retransmission.Resent.{Resent}
 use Rattle.codec_payload_sending_history.specs.declared.retransmission.Resent.TheVariants as results
-use Rattle.codec_payload_jitter.specs.Numbers.{no_numbers}
+use Rattle.codec_payload_numbers.specs.Numbers.{no_numbers}
 use Rattle.codec_payload_buffer_runs.specs.Exact.{AnswersAll}
 use Rattle.codec_payload_receiver.specs.Sessions.{Session, session_with}
 use Rattle.codec_payload_receiver.specs.declared.receiver.Settings.{Settings}

@@ -8,10 +8,10 @@ use Rattle.codec_payload_sending_history.specs.declared.retransmission.Retransmi
 use Rattle.codec_payload_sending_red.specs.Writers.{Writer}
 use Rattle.codec_payload_payloader.specs.Sending.{Sample}
 use Rattle.codec_payload_sending.specs.Senders.{Sending}
-use Rattle.codec_payload_receiver.specs.Kinds.{Kinds}
+use Rattle.codec_payload_datagrams.specs.Kinds.{Kinds}
 use Rattle.codec_payload_receiver.specs.Sessions.{Session}
-use Rattle.codec_payload_receiver.specs.declared.datagram.RedStream.{RedStream}
-use Rattle.codec_payload_receiver.specs.declared.receiver.Retransmission.{Retransmission}
+use Rattle.codec_payload_datagrams.specs.declared.kinds.RedStream.{RedStream}
+use Rattle.codec_payload_datagrams.specs.declared.kinds.Retransmission.{Retransmission}
 use Rattle.codec_payload_datagram_runs.specs.HistoryReleases.{AreRepeats, plain_steps, repeated_in}
 use Rattle.codec_payload_datagram_runs.specs.RedHistoryRuns.{RedHistoryRuns, RedResending, begins_in_red_with}
 use Rattle.codec_payload_datagram_runs.specs.RedLogs.{KeepsPromisesInRed}

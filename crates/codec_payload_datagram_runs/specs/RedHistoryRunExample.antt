@@ -3,12 +3,12 @@
 use Rattle.std.specs.Global.{Vec}
 use Rattle.std.specs.Prelude.{◌≡◌, ℕ, List, [], ◌∷◌, Some, length}
 use Rattle.codec_payload_codec.specs.Depacketizers.{OpusDepacketizing}
-use Rattle.codec_payload_jitter.specs.Numbers.{no_numbers}
+use Rattle.codec_payload_numbers.specs.Numbers.{no_numbers}
 use Rattle.codec_payload_sending_history.specs.declared.retransmission.Resent.{Resent}
 use Rattle.codec_payload_sending_history.specs.declared.retransmission.Resent.TheVariants as results
 use Rattle.codec_payload_buffer_runs.specs.Exact.{AnswersAll}
 use Rattle.codec_payload_receiver.specs.Sessions.{Session, session_with}
-use Rattle.codec_payload_receiver.specs.declared.datagram.RedStream.{RedStream}
+use Rattle.codec_payload_datagrams.specs.declared.kinds.RedStream.{RedStream}
 use Rattle.codec_payload_receiver.specs.declared.receiver.RedSettings.{RedSettings}
 use Rattle.codec_payload_receiver.specs.declared.receiver.Settings.{Settings}
 use Rattle.codec_payload_datagram_runs.specs.HistoryReleases.{plain_steps}

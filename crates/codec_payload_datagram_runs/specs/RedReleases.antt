@@ -1,9 +1,9 @@
 -- The units that a run in RED releases. A packet arrives with its own datagram, or as a block of a later one (RFC 2198).
 use Rattle.std.specs.Prelude.{◌≡◌, ℕ, ◌+◌, ◌-◌, ◌%◌, ◌<◌, ◌≤◌, ◌⊎◌, ◌==◌, Bool, true, false, List, [], ◌∷◌, ◌++◌, Option, Some, None, Result, Ok, Err, Contains, length, map}
 use Rattle.codec_payload_base.specs.Extensions.{no_values}
-use Rattle.codec_payload_buffer.specs.declared.buffer.unit.RtpMeta.{RtpMeta}
+use Rattle.codec_payload_metadata.specs.declared.meta.RtpMeta.{RtpMeta}
 use Rattle.codec_payload_codec.specs.Packetizers.{is_video, payloads_by, may_split}
-use Rattle.codec_payload_jitter.specs.Numbers.{Numbering}
+use Rattle.codec_payload_numbers.specs.Numbers.{Numbering}
 use Rattle.codec_payload_red.specs.RedLevels.{Entry}
 use Rattle.codec_payload_red.specs.RedRecovery.{Receiver}
 use Rattle.codec_payload_red.specs.RedRun.{IsKeptIn, IsRecoverable}
@@ -21,7 +21,7 @@ use Rattle.codec_payload_sending.specs.Senders.{Sending}
 use Rattle.codec_payload_sending.specs.declared.sender.Outgoing.{Outgoing}
 use Rattle.codec_payload_receiver.specs.Sessions.{Session}
 use Rattle.codec_payload_receiver.specs.declared.receiver.RedSettings.{RedSettings}
-use Rattle.codec_payload_receiver.specs.declared.receiver.Retransmission.{Retransmission}
+use Rattle.codec_payload_datagrams.specs.declared.kinds.Retransmission.{Retransmission}
 use Rattle.codec_payload_receiver.specs.declared.receiver.Settings.{Settings}
 use Rattle.codec_payload_datagram_runs.specs.RedRuns.{RedRuns, RedWire, begins_in_red}
 use Rattle.codec_payload_datagram_runs.specs.Releases.{AreDatagrams, AreDeliveredBefore, ComeWithin, HaveNoPops, IsWithinWindows, delivered, received_steps, sending_steps, values_read}

@@ -6,8 +6,8 @@ use Rattle.codec_payload_base.specs.declared.wire.Ticks.{Ticks}
 use Rattle.codec_payload_base.specs.declared.wire.extension.ExtensionValues.{ExtensionValues}
 use Rattle.codec_payload_codec.specs.Depacketizers.{DepacketizerState, kind_of_depacketizer}
 use Rattle.codec_payload_codec.specs.Packetizers.{is_built_in, is_video, payloads_by, may_split}
-use Rattle.codec_payload_buffer.specs.Release.{AreValues, Release}
-use Rattle.codec_payload_buffer.specs.declared.buffer.unit.RtpMeta.{RtpMeta}
+use Rattle.codec_payload_metadata.specs.Release.{AreValues, Release}
+use Rattle.codec_payload_metadata.specs.declared.meta.RtpMeta.{RtpMeta}
 use Rattle.codec_payload_buffer_runs.specs.Arrivals.{Tells}
 use Rattle.codec_payload_buffer_runs.specs.Exact.{AnswersAll}
 use Rattle.codec_payload_buffer_runs.specs.Headline.{InOrder}
@@ -29,7 +29,7 @@ use Rattle.codec_payload_sending.specs.Senders.{Sending}
 use Rattle.codec_payload_sending.specs.declared.sender.Outgoing.{Outgoing}
 use Rattle.codec_payload_receiver.specs.UnitGates.{drops_units}
 use Rattle.codec_payload_receiver.specs.Sessions.{Session, session_by}
-use Rattle.codec_payload_receiver.specs.declared.receiver.Retransmission.{Retransmission}
+use Rattle.codec_payload_datagrams.specs.declared.kinds.Retransmission.{Retransmission}
 use Rattle.codec_payload_receiver.specs.declared.receiver.Settings.{Settings}
 use Rattle.codec_payload_datagram_runs.specs.WireRuns.{Runs, Wire, begins}
 use Rattle.codec_payload_datagram_runs.specs.declared.run.DatagramStep.{DatagramStep}

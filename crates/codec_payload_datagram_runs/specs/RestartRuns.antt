@@ -6,7 +6,7 @@ use Rattle.codec_payload_buffer_runs.specs.Schedule.{Answer}
 use Rattle.codec_payload_payloader.specs.Sending.{Sample}
 use Rattle.codec_payload_sending.specs.Datagrams.{Sample as SentNow}
 use Rattle.codec_payload_sending.specs.Senders.{Sending}
-use Rattle.codec_payload_receiver.specs.Kinds.{retransmitted_under}
+use Rattle.codec_payload_datagrams.specs.Kinds.{retransmitted_under}
 use Rattle.codec_payload_receiver.specs.Sessions.{Session, restarted}
 use Rattle.codec_payload_datagram_runs.specs.OwnRuns.{AsksInRun}
 use Rattle.codec_payload_datagram_runs.specs.WireRuns.{Runs, Stops, Wire, begins, wire_of}

@@ -6,7 +6,7 @@ use Rattle.codec_payload_base.specs.Extensions.{no_values}
 use Rattle.codec_payload_base.specs.declared.wire.Ticks.{Ticks}
 use Rattle.codec_payload_codec.specs.Depacketizers.{Av1Depacketizing, OpusDepacketizing}
 use Rattle.codec_payload_codec.specs.Packetizers.{Av1Packetizing, OpusPacketizing, is_video}
-use Rattle.codec_payload_jitter.specs.Numbers.{no_numbers}
+use Rattle.codec_payload_numbers.specs.Numbers.{no_numbers}
 use Rattle.codec_payload_jitter.specs.Waiting.{waits_for}
 use Rattle.codec_payload_keyframes.specs.declared.unit_gate.FromKeyframe.TheVariants as modes
 use Rattle.codec_payload_rtp.specs.ExtensionWriting.{FitsValues}

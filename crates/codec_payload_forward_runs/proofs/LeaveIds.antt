@@ -26,7 +26,7 @@ from_at low k [] l from = absurd (omega (arith, l))
 from_at low zero (x ∷ xs) l from = from.0
 from_at low (suc k) (x ∷ xs) l from = from_at low k xs (omega (arith, l)) from.1
 
--- all but the last one are above it
+-- all except the last one are above it
 from_take : (k : ℕ) (xs : List ℕ) → length xs ≡ suc k → Falls xs → AllFrom (suc (get_or xs k 0)) (take k xs)
 from_take k [] e f = absurd (omega (arith, e))
 from_take zero (x ∷ xs) e f = tt
@@ -158,7 +158,7 @@ take_in n (suc k) (x ∷ xs) there = by (eqb x n) refl (take_in n k xs)
 
 -- The map of numbers
 
--- what holds of the fields of a map
+-- what the fields of a map meet
 abbrev pub IsTop : Numbers → Type 0
 IsTop m = (m.first ≤ m.highest) × AllBelow (suc m.highest) m.left_out × Falls m.left_out × (length m.left_out ≤ 4096) × AllFrom m.first m.left_out
 

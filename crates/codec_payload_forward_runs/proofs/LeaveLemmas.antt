@@ -14,7 +14,7 @@ use Rattle.codec_payload_codec.specs.Depacketizers.{DepacketizerState}
 use Rattle.codec_payload_codec.specs.Packetizers.{BoxedPacketizing, PacketizerState, PacketizerStep, Vp8Packetizing, is_built_in}
 use Rattle.codec_payload_payloader.specs.Sending.{Sample}
 use Rattle.codec_payload_receiver.specs.Sessions.{Session}
-use Rattle.codec_payload_receiver.specs.declared.receiver.Retransmission.{Retransmission}
+use Rattle.codec_payload_datagrams.specs.declared.kinds.Retransmission.{Retransmission}
 use Rattle.codec_payload_receiver.specs.declared.receiver.Settings.{Settings}
 use Rattle.codec_payload_rtp.specs.RtpPackets.{Packet}
 use Rattle.codec_payload_rtp.specs.RtpReading.{rtp_at}

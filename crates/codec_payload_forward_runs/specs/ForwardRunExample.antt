@@ -6,7 +6,7 @@ use Rattle.codec_payload_base.specs.declared.wire.Codec.{Codec}
 use Rattle.codec_payload_base.specs.declared.wire.Codec.TheVariants as codecs
 use Rattle.codec_payload_codec.specs.Depacketizers.{DepacketizerState, OpusDepacketizing, Vp8Depacketizing}
 use Rattle.codec_payload_codec.specs.Packetizers.{Vp8Packetizing}
-use Rattle.codec_payload_jitter.specs.Numbers.{no_numbers}
+use Rattle.codec_payload_numbers.specs.Numbers.{no_numbers}
 use Rattle.codec_payload_payloader.specs.Sending.{Sample}
 use Rattle.codec_payload_receiver.specs.Sessions.{Session, session_with}
 use Rattle.codec_payload_receiver.specs.declared.receiver.Settings.{Settings}

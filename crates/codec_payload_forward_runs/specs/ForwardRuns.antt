@@ -67,14 +67,17 @@ is_plain plain.Finish = true
 abbrev pub DoesPlain : List Sample → DatagramStep → Hops → Hops → Type 0
 DoesPlain samples step s t = (wire : Wire) × DoesStep samples step s.wire wire × (t ≡ record s { wire = wire })
 
--- One step. A datagram that comes to the forwarder gets an answer, and a packet may be written; a written datagram that is delivered
--- to the receiver gets a receipt
+-- the forwarder gets a packet, if the datagram is one: it answers, and may write the packet
+abbrev pub Comes : Option Packet → (now : ℕ) → Hops → Hops → Type 0
+Comes packet now s t =
+    MatchOption packet (t ≡ s) (λ p.
+    (answer : Forwarded) × (bytes : List ℕ) × (forwarder : Forward) × Forwards now p s.forwarder answer bytes forwarder
+    × (t ≡ record s { forwarder = forwarder; written = s.written ++ written_by answer bytes; answers = s.answers ++ answer ∷ [] }))
+
+-- One step. A datagram comes to the forwarder; a written datagram that is delivered to the receiver gets a receipt
 abbrev pub DoesForwardStep : List Sample → ForwardStep → Hops → Hops → Type 0
 DoesForwardStep samples (steps.Send i) s t = DoesPlain samples (plain.Send i) s t
-DoesForwardStep samples (steps.Forward k now) s t =
-    MatchOption (packet_in (slice_get s.wire.datagrams k)) (t ≡ s) (λ packet.
-    (answer : Forwarded) × (bytes : List ℕ) × (forwarder : Forward) × Forwards now packet s.forwarder answer bytes forwarder
-    × (t ≡ record s { forwarder = forwarder; written = s.written ++ written_by answer bytes; answers = s.answers ++ answer ∷ [] }))
+DoesForwardStep samples (steps.Forward k now) s t = Comes (packet_in (slice_get s.wire.datagrams k)) now s t
 DoesForwardStep samples (steps.Deliver j now) s t =
     MatchOption (slice_get s.written j) (t ≡ s) (λ bytes.
     (receipt : Receipt) × (session : Session) × Delivers now bytes s.wire.session receipt session

@@ -89,12 +89,9 @@ came_by answers.Filled k = k ∷ []
 
 abbrev pub came : List Event → List ℕ
 came [] = []
-came (sends i entry ∷ later) = came later
 came (forwards k answer ∷ later) = came_by answer k ++ came later
 came (leaves k answer ∷ later) = came_by answer k ++ came later
-came (delivers j now ∷ later) = came later
-came (pops now ∷ later) = came later
-came (ends ∷ later) = came later
+came (other ∷ later) = came later
 
 -- each is less than 32,768 above the highest one before it, and less than 32,768 below
 abbrev pub ComeNear : List ℕ → Type 0
@@ -114,12 +111,8 @@ gone_by answers.Filled k gone = gone
 
 abbrev pub gone_in : List ℕ → List Event → List ℕ
 gone_in gone [] = gone
-gone_in gone (sends i entry ∷ later) = gone_in gone later
-gone_in gone (forwards k answer ∷ later) = gone_in gone later
 gone_in gone (leaves k answer ∷ later) = gone_in (gone_by answer k gone) later
-gone_in gone (delivers j now ∷ later) = gone_in gone later
-gone_in gone (pops now ∷ later) = gone_in gone later
-gone_in gone (ends ∷ later) = gone_in gone later
+gone_in gone (other ∷ later) = gone_in gone later
 
 -- Whole frames
 
@@ -139,11 +132,7 @@ IsWhole gone first count = (place : ℕ) → place < count → is_in (first + pl
 abbrev pub AreWhole : List ℕ → (sent : ℕ) → List Event → Type 0
 AreWhole gone sent [] = Unit {0}
 AreWhole gone sent (sends i entry ∷ later) = IsWhole gone sent (count_of entry) × AreWhole gone (sent + count_of entry) later
-AreWhole gone sent (forwards k answer ∷ later) = AreWhole gone sent later
-AreWhole gone sent (leaves k answer ∷ later) = AreWhole gone sent later
-AreWhole gone sent (delivers j now ∷ later) = AreWhole gone sent later
-AreWhole gone sent (pops now ∷ later) = AreWhole gone sent later
-AreWhole gone sent (ends ∷ later) = AreWhole gone sent later
+AreWhole gone sent (other ∷ later) = AreWhole gone sent later
 
 -- a packet of padding was written
 abbrev pub fills : Forwarded → Bool
@@ -158,12 +147,8 @@ fills answers.Filled = true
 -- no datagram that is left out comes late
 abbrev pub NoneFilled : List Event → Type 0
 NoneFilled [] = Unit {0}
-NoneFilled (sends i entry ∷ later) = NoneFilled later
-NoneFilled (forwards k answer ∷ later) = NoneFilled later
 NoneFilled (leaves k answer ∷ later) = (fills answer ≡ false) × NoneFilled later
-NoneFilled (delivers j now ∷ later) = NoneFilled later
-NoneFilled (pops now ∷ later) = NoneFilled later
-NoneFilled (ends ∷ later) = NoneFilled later
+NoneFilled (other ∷ later) = NoneFilled later
 
 -- The steps of the viewer's receiver, as steps of a run over one hop
 
@@ -196,31 +181,19 @@ entry_unless false (Some entry) = entry ∷ []
 abbrev pub kept_sends : (gone : List ℕ) → (sent : ℕ) → List Event → List SentSample
 kept_sends gone sent [] = []
 kept_sends gone sent (sends i entry ∷ later) = entry_unless (leaves_sample gone sent (count_of entry)) entry ++ kept_sends gone (sent + count_of entry) later
-kept_sends gone sent (forwards k answer ∷ later) = kept_sends gone sent later
-kept_sends gone sent (leaves k answer ∷ later) = kept_sends gone sent later
-kept_sends gone sent (delivers j now ∷ later) = kept_sends gone sent later
-kept_sends gone sent (pops now ∷ later) = kept_sends gone sent later
-kept_sends gone sent (ends ∷ later) = kept_sends gone sent later
+kept_sends gone sent (other ∷ later) = kept_sends gone sent later
 
 -- the places of the datagrams that were written, after these steps
 abbrev pub kept_forwarded : (gone : List ℕ) → (forwarded : List ℕ) → List Event → List ℕ
 kept_forwarded gone forwarded [] = forwarded
-kept_forwarded gone forwarded (sends i entry ∷ later) = kept_forwarded gone forwarded later
 kept_forwarded gone forwarded (forwards k answer ∷ later) = kept_forwarded gone (forwarded ++ forwarded_by answer (place_of gone k)) later
-kept_forwarded gone forwarded (leaves k answer ∷ later) = kept_forwarded gone forwarded later
-kept_forwarded gone forwarded (delivers j now ∷ later) = kept_forwarded gone forwarded later
-kept_forwarded gone forwarded (pops now ∷ later) = kept_forwarded gone forwarded later
-kept_forwarded gone forwarded (ends ∷ later) = kept_forwarded gone forwarded later
+kept_forwarded gone forwarded (other ∷ later) = kept_forwarded gone forwarded later
 
 -- the first datagrams of the samples that were left out, the highest first; `ks` are those so far
 abbrev pub firsts_in : (gone : List ℕ) → (sent : ℕ) → (ks : List ℕ) → List Event → List ℕ
 firsts_in gone sent ks [] = ks
 firsts_in gone sent ks (sends i entry ∷ later) = firsts_in gone (sent + count_of entry) (if leaves_sample gone sent (count_of entry) then sent ∷ ks else ks) later
-firsts_in gone sent ks (forwards k answer ∷ later) = firsts_in gone sent ks later
-firsts_in gone sent ks (leaves k answer ∷ later) = firsts_in gone sent ks later
-firsts_in gone sent ks (delivers j now ∷ later) = firsts_in gone sent ks later
-firsts_in gone sent ks (pops now ∷ later) = firsts_in gone sent ks later
-firsts_in gone sent ks (ends ∷ later) = firsts_in gone sent ks later
+firsts_in gone sent ks (other ∷ later) = firsts_in gone sent ks later
 
 -- the same for a whole run
 abbrev pub gone_of : List Sample → List LeaveStep → Hops → List ℕ

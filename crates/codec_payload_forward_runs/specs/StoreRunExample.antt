@@ -5,7 +5,7 @@ use Rattle.std.specs.Prelude.{◌≡◌, ℕ, true, List, [], ◌∷◌, Some, N
 use Rattle.codec_payload_base.specs.declared.wire.Codec.TheVariants as codecs
 use Rattle.codec_payload_buffer_runs.specs.Exact.{AnswersAll}
 use Rattle.codec_payload_codec.specs.Depacketizers.{OpusDepacketizing}
-use Rattle.codec_payload_jitter.specs.Numbers.{no_numbers}
+use Rattle.codec_payload_numbers.specs.Numbers.{no_numbers}
 use Rattle.codec_payload_receiver.specs.Sessions.{Session, session_with}
 use Rattle.codec_payload_receiver.specs.declared.receiver.Settings.{Settings}
 use Rattle.codec_payload_sending_forward.specs.Forwarding.{Forward}

@@ -24,8 +24,8 @@ pub fn store_premises_can_be_met()
     ensures { StoreCanBeMet }
 {}
 
-/// A packet that the sender sent again on the first hop, as a retransmission (RFC 4588), and that was unwrapped
-/// (`OriginalStream::write`) reads as the datagram that it repeats. So it is as good for a forwarder.
+/// A packet that the sender retransmitted on the first hop (RFC 4588), and that was unwrapped (`OriginalStream::write`), reads as
+/// the datagram that it repeats. So it is as good for a forwarder.
 pub fn unwrapped_reads_as_sent()
     ensures { ReadsAsSent }
 {}

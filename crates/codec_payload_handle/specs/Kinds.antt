@@ -1,5 +1,6 @@
 -- The contents of a handle before and after a call.
 use Rattle.std.specs.Prelude.{◌≡◌, ◌⊎◌, ℕ, Bool, true, false, Option, Some, None}
+use Rattle.codec_payload_feedback_freezes.specs.Freezes.{Watched}
 use Rattle.codec_payload_feedback_wait.specs.Waits.{Wait}
 use Rattle.codec_payload_core.specs.RedLevels.{Sender as RedSender}
 use Rattle.codec_payload_handle.specs.declared.object.Assembler.{Assembler}
@@ -105,6 +106,15 @@ abbrev pub OnAdaptiveWait : Option Object → (Wait → Wait → Type 0) → Opt
 OnAdaptiveWait (Some (objects.AdaptiveWait r)) Does after = StaysAdaptiveWait (Does r.value) after
 OnAdaptiveWait _ Does after = Unit {0}
 
+-- the same for a counter of freezes
+abbrev pub StaysFreezes : (Watched → Type 0) → Option Object → Type 0
+StaysFreezes Done (Some (objects.Freezes s)) = Done s.value
+StaysFreezes Done _ = ⊥
+
+abbrev pub OnFreezes : Option Object → (Watched → Watched → Type 0) → Option Object → Type 0
+OnFreezes (Some (objects.Freezes r)) Does after = StaysFreezes (Does r.value) after
+OnFreezes _ Does after = Unit {0}
+
 -- the same for a reporter of the arrivals of a transport
 abbrev pub StaysPeerReporter : (PeerReporter → Type 0) → Option Object → Type 0
 StaysPeerReporter Done (Some (objects.PeerReporter s)) = Done s.value
@@ -162,6 +172,10 @@ is_packet_forwarder _ = false
 abbrev pub is_adaptive_wait : Object → Bool
 is_adaptive_wait (objects.AdaptiveWait _) = true
 is_adaptive_wait _ = false
+
+abbrev pub is_freezes : Object → Bool
+is_freezes (objects.Freezes _) = true
+is_freezes _ = false
 
 abbrev pub is_peer_reporter : Object → Bool
 is_peer_reporter (objects.PeerReporter _) = true

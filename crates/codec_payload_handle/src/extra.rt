@@ -157,11 +157,24 @@ fn tell_vp9(extra: &mut Extra, told: &Vp9CodecExtra)
     extra.layers = layers_of(told);
 }
 
-/// Describes the codec-specific data of a unit for C, in place of what `extra` has.
+/// Describes the codec-specific data of a unit for C, in place of what `extra` has. Units of audio mostly have none.
+#[inline(always)]
 pub fn tell_extra(extra: &mut Extra, told: &CodecExtra)
     ensures { extra.new ≡ extra_told told.now }
 {
     *extra = nothing();
+    match told {
+        CodecExtra::None => {}
+        _ => tell_some(extra, told),
+    }
+}
+
+/// Describes the codec-specific data, in fields that are all 0.
+#[inline(never)]
+fn tell_some(extra: &mut Extra, told: &CodecExtra)
+    requires { extra.old ≡ nothing_told }
+    ensures { extra.new ≡ extra_told told.now }
+{
     match told {
         CodecExtra::None => {}
         CodecExtra::Vp8(told) => tell_vp8(extra, told),

@@ -8,6 +8,7 @@ use codec_payload_core::red::RedSender;
 use codec_payload_core::wire::Frequency;
 use codec_payload_feedback::requests::FeedbackSource;
 use codec_payload_feedback::transport::TransportReporter;
+use codec_payload_feedback_freezes::freezes::Freezes;
 use codec_payload_feedback_transport::sent::SentPackets;
 use codec_payload_feedback_wait::adaptive_wait::AdaptiveWait;
 use codec_payload_receiver::receiver::Receiver as DatagramReceiver;
@@ -111,6 +112,7 @@ pub enum Object {
     PacketHistory(Box<PacketHistory>),
     PacketForwarder(Box<PacketForwarder>),
     AdaptiveWait(Box<AdaptiveWait>),
+    Freezes(Box<Freezes>),
     PeerReporter(Box<PeerReporter>),
     SentPackets(Box<SentPackets>),
 }

@@ -54,7 +54,7 @@ chosen_behind false place =
     ap (λ (p : ℕ). Some p) same
 
 -- behind two times that have not come
-place_behind : (now a b : ℕ) (ts : List ℕ) (k : Option ℕ) → option_map suc (option_map suc (place_below now ts k)) ≡ place_below now (a ∷ b ∷ ts) (option_map suc k)
+pub place_behind : (now a b : ℕ) (ts : List ℕ) (k : Option ℕ) → option_map suc (option_map suc (place_below now ts k)) ≡ place_below now (a ∷ b ∷ ts) (option_map suc k)
 place_behind now a b ts None = refl
 place_behind now a b ts (Some k) =
     let even : suc (suc (2 * k)) ≡ 2 * suc k = omega arith in

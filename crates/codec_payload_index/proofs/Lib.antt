@@ -1,3 +1,4 @@
 pub mod EntryLemmas
+pub mod FromLemmas
 pub mod HalvedLemmas
 pub mod LevelLemmas

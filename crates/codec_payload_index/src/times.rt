@@ -1,8 +1,8 @@
 //! A list of times, which knows the least one and finds the first one that has come. It has levels: each level above the first has
 //! the lesser of each two times of the level below it.
 
-ghost use Rattle.std.specs.Prelude.{◌≡◌, ◌<◌, ◌≤◌, IfOk, ℕ, List, [], ◌+◌, ◌*◌, ◌/◌, Option, length, nat_le, slice_index, slice_set};
-ghost use Rattle.codec_payload_index.specs.Times.{AreLevels, bottom, chosen, first_come, halved, least_of};
+ghost use Rattle.std.specs.Prelude.{◌≡◌, ◌<◌, ◌≤◌, IfOk, ℕ, List, [], ◌+◌, ◌*◌, ◌/◌, Option, length, nat_le, slice_get, slice_index, slice_set};
+ghost use Rattle.codec_payload_index.specs.Times.{AreLevels, bottom, chosen, first_come, first_come_from, halved, has_come, least_of};
 
 use std::alloc::{AllocError, Global};
 use std::marker::Model;
@@ -66,6 +66,16 @@ impl Times {
         ensures { result ≡ first_come now self.now }
     {
         first(&self.levels, now)
+    }
+
+    /// Returns the first place from `from` on whose time has come.
+    pub fn first_from(&self, from: usize, now: u64) -> Option<usize>
+        ensures { result ≡ first_come_from from now self.now }
+    {
+        if from == 0 {
+            return self.first(now);
+        }
+        first_from(&self.levels, from, now)
     }
 }
 
@@ -226,4 +236,35 @@ fn first(levels: &Vec<Vec<u64>>, now: u64) -> Option<usize>
         place = first_below(&levels[level], place, now);
     }
     place
+}
+
+/// Returns whether there is a time at this place, and has come.
+fn has_come(level: &[u64], place: usize, now: u64) -> bool
+    ensures { result ≡ has_come (slice_get level.now place) now }
+{
+    match level.get(place) {
+        Some(time) => *time <= now,
+        None => false,
+    }
+}
+
+/// Returns the first place from `from` on in the first of these levels whose time has come. It climbs only as far as no time has
+/// come, at most to the last level.
+fn first_from(levels: &[Vec<u64>], from: usize, now: u64) -> Option<usize>
+    requires { AreLevels levels.now }
+    ensures { result ≡ first_come_from from now (bottom levels.now) }
+{
+    let [level, above @ ..] = levels else {
+        return None;
+    };
+    if has_come(level, from, now) {
+        return Some(from);
+    }
+    if above.len() == 0 {
+        return None;
+    }
+    match first_from(above, from / 2 + from % 2, now) {
+        Some(pair) => Some(place_in(level, pair, now)),
+        None => None,
+    }
 }

@@ -3,18 +3,19 @@ use Rattle.std.proofs.Common.{◌≡◌, ◌∙◌, refl, ap, sym, ℕ, [], ◌�
 use Rattle.codec_payload_jitter.specs.NoMediaNumbers.{noted_no_media}
 use Rattle.codec_payload_jitter.specs.Pressure.{Event, Packet, Retransmitted, Recovered, WithoutMedia, Comes}
 use Rattle.codec_payload_jitter.specs.Receiving.{Receiving, Arrival, Confirms, GoesOn, NotesAs, PopsWith, ReceivesAs, ReceivesAgainAs, RecoversAs, RecoversIf, Restarts, settled, waiting_at}
-use Rattle.codec_payload_jitter.specs.Receiving.{answer_in, answer_to, counted, counted_again, former_by, former_of, kept_number, may_recover, next, number_again_for, outcome_at, restarted, with_former}
+use Rattle.codec_payload_jitter.specs.Receiving.{answer_in, answer_to, counted, counted_again, former_by, former_of, may_recover, next, number_again_for, outcome_at, restarted, with_former}
+use Rattle.codec_payload_numbers.specs.Numbers.{kept_number}
 use Rattle.codec_payload_jitter.specs.Restarts.{Arrives, PopsAt, HaveNoFormer}
 use Rattle.codec_payload_jitter.specs.Runs.{Answer}
-use Rattle.codec_payload_jitter.specs.declared.noted_times.FormerSender.{FormerSender}
-use Rattle.codec_payload_jitter.specs.declared.noted_times.NotedTime.{NotedTime}
-use Rattle.codec_payload_jitter.specs.declared.numbers.Extended.{Extended}
-use Rattle.codec_payload_jitter.specs.declared.numbers.Extended.TheVariants as extended
+use Rattle.codec_payload_numbers.specs.declared.noted_times.FormerSender.{FormerSender}
+use Rattle.codec_payload_numbers.specs.declared.noted_times.NotedTime.{NotedTime}
+use Rattle.codec_payload_numbers.specs.declared.numbers.Extended.{Extended}
+use Rattle.codec_payload_numbers.specs.declared.numbers.Extended.TheVariants as extended
 use Rattle.codec_payload_jitter.specs.declared.outcome.Outcome.{Outcome}
 use Rattle.codec_payload_jitter.specs.declared.outcome.Outcome.TheVariants as outcomes
 use Rattle.codec_payload_jitter.specs.declared.outcome.PacketCounters.{PacketCounters}
 use Rattle.codec_payload_jitter.proofs.RestartLemmas.{goes_on_restarts}
-use Rattle.codec_payload_jitter.proofs.TimesLemmas.{noted_former, none_of_former}
+use Rattle.codec_payload_numbers.proofs.TimesLemmas.{noted_former, none_of_former}
 
 -- the former sender of a jitter buffer
 abbrev pub former_in : Receiving → Option FormerSender

@@ -4,7 +4,7 @@ use Rattle.std.proofs.lemmas.Bool.Decides.{nat_tests}
 use Rattle.codec_payload_codec.proofs.CaseLemmas.{by_test}
 use Rattle.codec_payload_base.specs.declared.error.PacketError.{PacketError}
 use Rattle.codec_payload_buffer.specs.Held.{Held, has_number}
-use Rattle.codec_payload_buffer.specs.Release.{Release}
+use Rattle.codec_payload_metadata.specs.Release.{Release}
 use Rattle.codec_payload_buffer.specs.Steps.{IsSound, Pops, State, is_at_most}
 use Rattle.codec_payload_buffer.proofs.PairLemmas.{pushed_sound}
 use Rattle.codec_payload_jitter.specs.KeptMissing.{IsKnown, Keeps, Kept, is_free, touched, touched_if}

@@ -1,12 +1,9 @@
-pub mod NumbersLemmas
 pub mod ReceivingLemmas
 pub mod NoMediaLemmas
 pub mod MissingLemmas
 pub mod RunLemmas
 pub mod PressureLemmas
 pub mod RestartLemmas
-pub mod NotedLemmas
-pub mod TimesLemmas
 pub mod RestartingLemmas
 pub mod OwnLemmas
 pub mod FormerLemmas

@@ -6,9 +6,9 @@ use Rattle.codec_payload_base.specs.declared.error.PacketError.TheVariants as fa
 use Rattle.codec_payload_codec.specs.Depacketizers.{is_built_in_depacketizer}
 use Rattle.codec_payload_buffer.specs.Blanks.{is_right_after, passed_number}
 use Rattle.codec_payload_buffer.specs.Held.{Held, number_of, has_number, placed}
-use Rattle.codec_payload_buffer.specs.Release.{Release}
+use Rattle.codec_payload_metadata.specs.Release.{Release}
 use Rattle.codec_payload_buffer.specs.Steps.{State, Pops, TakesFrame, arrived_by, is_dropped, kept_to_limit, nothing_unpacked, packets_of_frame, pushed, without_lowest}
-use Rattle.codec_payload_buffer.specs.declared.buffer.unit.RtpMeta.{RtpMeta}
+use Rattle.codec_payload_metadata.specs.declared.meta.RtpMeta.{RtpMeta}
 use Rattle.codec_payload_buffer.proofs.MemberLemmas.{IsIn, contains_in, in_contains}
 use Rattle.codec_payload_buffer.proofs.OwnLemmas.{passes_stays, unpacks_stays}
 use Rattle.codec_payload_jitter.specs.NoMediaNumbers.{is_done, passed_no_media}

@@ -7,18 +7,19 @@ use Rattle.codec_payload_base.specs.declared.error.PacketError.{PacketError}
 use Rattle.codec_payload_buffer.specs.Frames.{frames}
 use Rattle.codec_payload_buffer.specs.Held.{Held, number_of, has_number, placed}
 use Rattle.codec_payload_buffer.specs.Leaving.{left_of}
-use Rattle.codec_payload_buffer.specs.Release.{Release}
+use Rattle.codec_payload_metadata.specs.Release.{Release}
 use Rattle.codec_payload_buffer.specs.Blanks.{released_packets}
 use Rattle.codec_payload_buffer.specs.Steps.{State, HasTaken, Passes, Pops, TakesFrame, none, one_more, is_at_most, is_dropped, pushed, without_lowest}
 use Rattle.codec_payload_buffer.specs.declared.buffer.frames.CompleteFrame.{CompleteFrame}
 use Rattle.codec_payload_buffer.proofs.BlankLemmas.{leaves_few, takes_away}
 use Rattle.codec_payload_jitter.specs.Pressure.{Event, Packet, Retransmitted, Recovered, WithoutMedia, Comes, ComeAll, Drains, Burst, DoesBursts, SparesCompleteFrames}
 use Rattle.codec_payload_jitter.specs.Receiving.{Receiving, Arrival, Accepts, Confirms, GoesInAgain, GoesOn, NotesAs, PopsWith, ReceivesAgainAs, ReceivesAs, RecoversAs, RecoversIf, Restarts}
-use Rattle.codec_payload_jitter.specs.Receiving.{answer_in, answer_to, kept_number, with_noted, counted, counted_again, counted_in_again, counted_pop, counted_recovered, is_stored, has_little_room, is_pressed, may_recover, next, number_again_for, numbered, outcome_at, past_first, restarted, settled, units_in, waiting_at, with_first, with_former}
+use Rattle.codec_payload_jitter.specs.Receiving.{answer_in, answer_to, with_noted, counted, counted_again, counted_in_again, counted_pop, counted_recovered, is_stored, has_little_room, is_pressed, may_recover, next, number_again_for, numbered, outcome_at, past_first, restarted, settled, units_in, waiting_at, with_first, with_former}
+use Rattle.codec_payload_numbers.specs.Numbers.{kept_number}
 use Rattle.codec_payload_jitter.specs.NoMediaNumbers.{noted_no_media}
 use Rattle.codec_payload_jitter.specs.Runs.{Answer}
-use Rattle.codec_payload_jitter.specs.declared.numbers.Extended.{Extended}
-use Rattle.codec_payload_jitter.specs.declared.numbers.Extended.TheVariants as extended
+use Rattle.codec_payload_numbers.specs.declared.numbers.Extended.{Extended}
+use Rattle.codec_payload_numbers.specs.declared.numbers.Extended.TheVariants as extended
 use Rattle.codec_payload_jitter.specs.declared.outcome.Outcome.{Outcome}
 use Rattle.codec_payload_jitter.specs.declared.outcome.Outcome.TheVariants as outcomes
 use Rattle.codec_payload_jitter.specs.declared.outcome.PacketCounters.{PacketCounters}

@@ -1,20 +1,20 @@
 -- The noted times of a sender that gives each number one RTP time contradict none of its packets, so no restart is reported.
 use Rattle.std.proofs.Common.{◌≡◌, ◌∙◌, refl, ap, sym, subst, ℕ, [], ◌∷◌, Bool, true, false, not, ◌||◌, ◌&&◌, Option, Some, None, cond}
 use Rattle.codec_payload_base.specs.declared.wire.RtpHeader.{RtpHeader}
-use Rattle.codec_payload_jitter.specs.NotedTimes.{AreTimesOf, contradicts, is_untimely, noted_with}
-use Rattle.codec_payload_jitter.specs.Numbers.{answer_for, number_within, without_restart}
+use Rattle.codec_payload_numbers.specs.NotedTimes.{AreTimesOf, contradicts, is_untimely, noted_with}
+use Rattle.codec_payload_numbers.specs.Numbers.{answer_for, number_within, without_restart}
 use Rattle.codec_payload_jitter.specs.Pressure.{Event, Packet, Retransmitted, Recovered, WithoutMedia, Comes}
 use Rattle.codec_payload_jitter.specs.Receiving.{Receiving, Arrival, Accepts, GoesOn, NotesAs, PopsWith, ReceivesAs, ReceivesAgainAs, RecoversAs, RecoversIf, settled, waiting_at}
 use Rattle.codec_payload_jitter.specs.Receiving.{answer_by_time, answer_in, answer_to, answer_to_contradiction, counted, counted_in_again, is_contradicted, is_stored, may_recover, next, number_again, number_again_for}
 use Rattle.codec_payload_jitter.specs.Restarts.{IsHonest, Arrives, PopsAt, NeverRestarts}
 use Rattle.codec_payload_jitter.specs.Runs.{Answer}
-use Rattle.codec_payload_jitter.specs.declared.noted_times.NotedTime.{NotedTime}
-use Rattle.codec_payload_jitter.specs.declared.numbers.Extended.{Extended}
-use Rattle.codec_payload_jitter.specs.declared.numbers.Extended.TheVariants as extended
+use Rattle.codec_payload_numbers.specs.declared.noted_times.NotedTime.{NotedTime}
+use Rattle.codec_payload_numbers.specs.declared.numbers.Extended.{Extended}
+use Rattle.codec_payload_numbers.specs.declared.numbers.Extended.TheVariants as extended
 use Rattle.codec_payload_jitter.specs.declared.outcome.Outcome.{Outcome}
 use Rattle.codec_payload_jitter.specs.declared.outcome.Outcome.TheVariants as outcomes
 use Rattle.codec_payload_jitter.specs.declared.outcome.PacketCounters.{PacketCounters}
-use Rattle.codec_payload_jitter.proofs.TimesLemmas.{never_contradicts, none_of_former, still_times}
+use Rattle.codec_payload_numbers.proofs.TimesLemmas.{never_contradicts, none_of_former, still_times}
 
 -- Answers
 

@@ -9,12 +9,13 @@ use Rattle.codec_payload_buffer.specs.Pairs.{StoresTwo}
 use Rattle.codec_payload_buffer.specs.Steps.{IsArrived, State, is_at_most, kept_to_limit, placed_at, pushed, without_lowest}
 use Rattle.codec_payload_buffer.specs.declared.buffer.pair.Incoming.{Incoming}
 use Rattle.codec_payload_buffer.specs.declared.buffer.placed.Placed.{Placed}
-use Rattle.codec_payload_buffer.specs.declared.buffer.unit.RtpMeta.{RtpMeta}
+use Rattle.codec_payload_metadata.specs.declared.meta.RtpMeta.{RtpMeta}
 use Rattle.codec_payload_jitter.proofs.ReceivingLemmas.{placed_outcome}
 use Rattle.codec_payload_jitter.specs.NoMediaNumbers.{noted_no_media}
-use Rattle.codec_payload_jitter.specs.NotedTimes.{Noted, noted_with}
+use Rattle.codec_payload_numbers.specs.NotedTimes.{Noted, noted_with}
 use Rattle.codec_payload_jitter.specs.Receiving.{Receiving, Arrival, Confirms, GoesInAgain, GoesOn, NotesRestart, Restarts, RestartsWith, TakesIn, TakesInBoth}
-use Rattle.codec_payload_jitter.specs.Receiving.{counted, counted_again, counted_restart, kept_number, meta_for, outcome_at, outcome_of, restarted, with_noted}
+use Rattle.codec_payload_jitter.specs.Receiving.{counted, counted_again, counted_restart, meta_for, outcome_at, outcome_of, restarted, with_noted}
+use Rattle.codec_payload_numbers.specs.Numbers.{kept_number}
 use Rattle.codec_payload_jitter.specs.declared.outcome.Outcome.{Outcome}
 use Rattle.codec_payload_jitter.specs.declared.outcome.Outcome.TheVariants as outcomes
 use Rattle.codec_payload_jitter.specs.declared.outcome.PacketCounters.{PacketCounters}

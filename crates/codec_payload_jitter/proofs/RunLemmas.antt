@@ -1,23 +1,23 @@
 -- Pushes into a jitter buffer are pushes into its buffer.
 use Rattle.std.proofs.Common.{◌≡◌, ◌∙◌, refl, ap, sym, subst, ℕ, List, [], ◌∷◌, map, Bool, true, false, Option, Some, None, length, cond, ltb}
-use Rattle.codec_payload_jitter.specs.declared.numbers.Extended.{Extended}
-use Rattle.codec_payload_jitter.specs.declared.numbers.Extended.TheVariants as extended
+use Rattle.codec_payload_numbers.specs.declared.numbers.Extended.{Extended}
+use Rattle.codec_payload_numbers.specs.declared.numbers.Extended.TheVariants as extended
 use Rattle.codec_payload_codec.specs.Depacketizers.{DepacketizerState}
 use Rattle.codec_payload_buffer.specs.Held.{Held, number_of, placed}
 use Rattle.codec_payload_buffer.specs.Steps.{State, pushed, is_dropped, without_lowest, Pops}
 use Rattle.codec_payload_buffer.specs.Stretches.{after_pushes}
-use Rattle.codec_payload_jitter.specs.Numbers.{Numbering, low_bits, no_numbers, number_for, numbering_after, numbers_for, answer_for}
-use Rattle.codec_payload_jitter.specs.Numbers.{numbering_with, without_restart, number_in, is_restart, GoOn, moved}
-use Rattle.codec_payload_jitter.specs.NotedTimes.{AreTimesOf, Noted, first_or, is_untimely, noted_with}
+use Rattle.codec_payload_numbers.specs.Numbers.{Numbering, low_bits, no_numbers, number_for, numbering_after, numbers_for, answer_for}
+use Rattle.codec_payload_numbers.specs.Numbers.{numbering_with, without_restart, number_in, is_restart, GoOn, moved}
+use Rattle.codec_payload_numbers.specs.NotedTimes.{AreTimesOf, Noted, first_or, is_untimely, noted_with}
 use Rattle.codec_payload_jitter.proofs.RestartLemmas.{answer_to_is, answer_without_former}
-use Rattle.codec_payload_jitter.proofs.TimesLemmas.{still_times}
+use Rattle.codec_payload_numbers.proofs.TimesLemmas.{still_times}
 use Rattle.codec_payload_jitter.specs.Receiving.{answer_by_time, answer_to, first_with, with_noted}
 use Rattle.codec_payload_jitter.specs.Receiving.{Receiving, Arrival, answer_in, Receives, ReceivesAs, TakesIn, settled, waiting_at, PopsWith}
 use Rattle.codec_payload_jitter.specs.NoMediaNumbers.{passed_no_media, no_media_left}
 use Rattle.codec_payload_jitter.specs.Runs.{ReceivesAll, HaveTimes, HaveTimesByRound, first_through, low_numbers, timed, ArriveAs, AreStretches, AreTrueStretches, Answer, numbering_past, numbers_by_round, TurnWith, IsChain, GoOnByRound, Round, AreChains}
-use Rattle.codec_payload_jitter.specs.declared.noted_times.NotedTime.{NotedTime}
+use Rattle.codec_payload_numbers.specs.declared.noted_times.NotedTime.{NotedTime}
 use Rattle.codec_payload_jitter.specs.declared.outcome.Outcome.{Outcome}
-use Rattle.codec_payload_jitter.proofs.NumbersLemmas.{are_true_numbers, none_restarts}
+use Rattle.codec_payload_numbers.proofs.NumbersLemmas.{are_true_numbers, none_restarts}
 
 lowest_depacketizer : (s : State) (ps : List Held) → (without_lowest s ps).depacketizer ≡ s.depacketizer
 lowest_depacketizer s [] = refl

@@ -2,14 +2,14 @@
 use Rattle.std.proofs.Common.{◌≡◌, ◌≢◌, ◌∙◌, refl, ap, sym, subst, ℕ, List, [], ◌∷◌, Bool, true, false, length, cond, ltb, leb, eqb, arith, ◌||◌, ◌&&◌, not, Option, Some, None, drop, inl, inr, ◌++◌, ◌<◌, ◌≤◌, Result, Ok, Err}
 use Rattle.std.proofs.lemmas.Bool.Decides.{nat_tests}
 use Rattle.codec_payload_codec.proofs.CaseLemmas.{by_test}
-use Rattle.codec_payload_buffer.specs.declared.buffer.unit.RtpMeta.{RtpMeta}
+use Rattle.codec_payload_metadata.specs.declared.meta.RtpMeta.{RtpMeta}
 use Rattle.codec_payload_buffer.specs.Held.{AllAbove, Held, IsAboveCutoff, above, has_number, number_of, placed}
 use Rattle.codec_payload_buffer.specs.Blanks.{is_right_after, passed_number}
 use Rattle.codec_payload_buffer.specs.declared.buffer.frames.CompleteFrame.{CompleteFrame}
 use Rattle.codec_payload_base.specs.Time.{Time}
 use Rattle.codec_payload_buffer.proofs.FrameParts.{IsRun}
 use Rattle.codec_payload_base.specs.declared.error.PacketError.{PacketError}
-use Rattle.codec_payload_buffer.specs.Release.{Release}
+use Rattle.codec_payload_metadata.specs.Release.{Release}
 use Rattle.codec_payload_buffer.proofs.PopLemmas.{order_due, part_due}
 use Rattle.codec_payload_buffer.proofs.LeavingLemmas.{passes_sound}
 use Rattle.codec_payload_buffer.proofs.PlaceLemmas.{placed_above_cutoff}

@@ -1,7 +1,5 @@
 pub mod NoMediaNumbers
 pub mod Missing
-pub mod NotedTimes
-pub mod Numbers
 pub mod Pressure
 pub mod Receiving
 pub mod Restarts

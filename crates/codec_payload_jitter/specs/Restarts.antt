@@ -1,11 +1,11 @@
 -- Senders that do not restart: each number has one RTP time.
 use Rattle.std.specs.Prelude.{◌≡◌, ℕ, false, List, [], ◌∷◌, None, Some}
-use Rattle.codec_payload_jitter.specs.NotedTimes.{AreTimesOf, is_untimely}
-use Rattle.codec_payload_jitter.specs.Numbers.{answer_for, number_within}
+use Rattle.codec_payload_numbers.specs.NotedTimes.{AreTimesOf, is_untimely}
+use Rattle.codec_payload_numbers.specs.Numbers.{answer_for, number_within}
 use Rattle.codec_payload_jitter.specs.Pressure.{Event, Packet, Retransmitted, Recovered, WithoutMedia, Comes}
 use Rattle.codec_payload_jitter.specs.Receiving.{Receiving, Arrival, PopsWith, is_of_former_sender, settled, waiting_at}
 use Rattle.codec_payload_jitter.specs.Runs.{Answer}
-use Rattle.codec_payload_jitter.specs.declared.numbers.Extended.TheVariants as extended
+use Rattle.codec_payload_numbers.specs.declared.numbers.Extended.TheVariants as extended
 
 -- the packet is within the windows of the highest number before it, and has the one RTP time of its number. If its number is below
 -- the first one, its RTP time is from 5 seconds before the first one's up to that time

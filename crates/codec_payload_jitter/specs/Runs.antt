@@ -3,13 +3,13 @@ use Rattle.std.specs.Prelude.{◌≡◌, ℕ, ◌+◌, ◌<◌, ◌^◌, false, 
 use Rattle.codec_payload_codec.specs.Depacketizers.{DepacketizerState}
 use Rattle.codec_payload_buffer.specs.Held.{Held}
 use Rattle.codec_payload_base.specs.declared.error.PacketError.{PacketError}
-use Rattle.codec_payload_buffer.specs.Release.{Release}
+use Rattle.codec_payload_metadata.specs.Release.{Release}
 use Rattle.codec_payload_buffer.specs.Steps.{State, IsArrived, Pops}
 use Rattle.codec_payload_buffer.specs.Stretches.{after_pushes}
-use Rattle.codec_payload_jitter.specs.NotedTimes.{AreTimesOf, first_or, is_untimely}
-use Rattle.codec_payload_jitter.specs.Numbers.{Numbering, numbering_after, IsNumbering, no_numbers, numbers_for, low_bits, moved, GoOn, StayNear}
+use Rattle.codec_payload_numbers.specs.NotedTimes.{AreTimesOf, first_or, is_untimely}
+use Rattle.codec_payload_numbers.specs.Numbers.{Numbering, numbering_after, IsNumbering, no_numbers, numbers_for, low_bits, moved, GoOn, StayNear}
 use Rattle.codec_payload_jitter.specs.Receiving.{Receiving, Arrival, Receives, meta_for, settled, waiting_at, PopsWith}
-use Rattle.codec_payload_jitter.specs.declared.noted_times.NotedTime.{NotedTime}
+use Rattle.codec_payload_numbers.specs.declared.noted_times.NotedTime.{NotedTime}
 use Rattle.codec_payload_jitter.specs.declared.outcome.Outcome.{Outcome}
 
 -- pushes, one after another, with their outcomes

@@ -2,7 +2,7 @@
 use Rattle.std.specs.Prelude.{◌≡◌, ◌≢◌, ℕ, false, if◌then◌else◌, List, [], ◌∷◌, Option, Some, None, nat_le, nat_lt, length, Result}
 use Rattle.codec_payload_base.specs.declared.error.PacketError.{PacketError}
 use Rattle.codec_payload_buffer.specs.Held.{has_number}
-use Rattle.codec_payload_buffer.specs.Release.{Release}
+use Rattle.codec_payload_metadata.specs.Release.{Release}
 use Rattle.codec_payload_buffer.specs.Steps.{IsSound, Pops, State, is_at_most}
 use Rattle.codec_payload_jitter.specs.NoMediaNumbers.{is_in, no_media_in, no_media_left, noted_no_media, passed_no_media}
 use Rattle.codec_payload_jitter.specs.Receiving.{Arrival, TakesIn}

@@ -1,25 +1,11 @@
-//! Theorems about numbers, numbers without media and jitter buffers. These functions exist for what they prove; they do
+//! Theorems about numbers without media and jitter buffers. These functions exist for what they prove; they do
 //! nothing.
 
-ghost use Rattle.codec_payload_jitter.specs.Numbers.{AreTrueNumbers, NoneRestarts, NeverMix, AreTrueAnew, NeverMixAnew, AreTrueBegun};
 ghost use Rattle.codec_payload_jitter.specs.NoMediaNumbers.{PassesNoMediaAlone, PassesInPlace};
 ghost use Rattle.codec_payload_jitter.specs.Pressure.{SparesCompleteFrames};
 ghost use Rattle.codec_payload_jitter.specs.Restarts.{HaveNoFormer, NeverRestarts};
 ghost use Rattle.codec_payload_jitter.specs.Staying.{NoteChangesTwo, PassChangesNone, PopChangesNone, StoreChangesOne};
 ghost use Rattle.codec_payload_jitter.specs.Runs.{AreChains, AreStretches, AreTrueStretches};
-
-/// Proves that extended numbers are true numbers. If each true number lies within the windows of the highest one so far, each
-/// packet gets its true number plus one constant, and no restart is reported. After a restart the same applies with another
-/// constant, and each number is above all earlier ones. The theorem covers announced restarts, and packets that were sent
-/// before the first one that arrives.
-pub fn numbers_are_true()
-    ensures numbers { AreTrueNumbers }
-    ensures goes_on { NoneRestarts }
-    ensures above { NeverMix }
-    ensures is_restarting { AreTrueAnew }
-    ensures above_announced { NeverMixAnew }
-    ensures announced { AreTrueBegun }
-{}
 
 /// Proves that the cutoff skips only numbers without media, and that nothing else changes.
 pub fn passes_no_media_alone()

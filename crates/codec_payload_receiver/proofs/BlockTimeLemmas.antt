@@ -3,9 +3,9 @@ use Rattle.std.proofs.Common.{◌≡◌, ◌∙◌, refl, ap, cond, ℕ, zero, s
 use Rattle.std.specs.Prelude.{replicate}
 use Rattle.codec_payload_jitter.specs.declared.outcome.Outcome.{Outcome}
 use Rattle.codec_payload_receiver.specs.RedOnce.{HasNoBlock}
-use Rattle.codec_payload_receiver.specs.SeenTimes.{Seen, has_block, none_seen, seen_with}
-use Rattle.codec_payload_receiver.specs.Sessions.{is_restart, packet_seen, seen_past}
-use Rattle.codec_payload_receiver.specs.declared.seen_times.SeenTime.{SeenTime}
+use Rattle.codec_payload_numbers.specs.SeenTimes.{Seen, has_block, none_seen, seen_with, seen_past}
+use Rattle.codec_payload_receiver.specs.Sessions.{is_restart, packet_seen}
+use Rattle.codec_payload_numbers.specs.declared.seen_times.SeenTime.{SeenTime}
 
 pub and_false : (b : Bool) → (b && false) ≡ false
 and_false true = refl

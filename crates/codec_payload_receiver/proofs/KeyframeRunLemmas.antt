@@ -13,12 +13,12 @@ use Rattle.codec_payload_keyframes.specs.declared.references.UnitReferences.{Uni
 use Rattle.codec_payload_keyframes.proofs.GateLemmas.{gates_agree, units_follow_keyframes}
 use Rattle.codec_payload_keyframes.proofs.LayerLemmas.{layer_fits}
 use Rattle.codec_payload_receiver.specs.KeyframeRuns.{DatagramsLeaveTheGate, DropsFollowKeyframes, GateRun, PopsFollowKeyframes, answer_events, begins, fault_events, others, pop_events, pops, restarts}
-use Rattle.codec_payload_receiver.specs.Kinds.{Datagram}
+use Rattle.codec_payload_datagrams.specs.Kinds.{Datagram}
 use Rattle.codec_payload_receiver.specs.Pops.{Answer, after_fault, gates_after, gates_if, has_left, is_large, is_memory}
 use Rattle.codec_payload_receiver.specs.Sessions.{Finishes, HearsIf, Heard, Keeps, ReceivesBy, ReceivesBytes, Session, SettlesOn, first_waiting, opened_if}
-use Rattle.codec_payload_receiver.specs.declared.choice.Candidate.{Candidate}
-use Rattle.codec_payload_receiver.specs.declared.choice.Verdict.{Verdict}
-use Rattle.codec_payload_receiver.specs.declared.choice.Verdict.TheVariants as verdicts
+use Rattle.codec_payload_datagrams.specs.declared.choice.Candidate.{Candidate}
+use Rattle.codec_payload_datagrams.specs.declared.choice.Verdict.{Verdict}
+use Rattle.codec_payload_datagrams.specs.declared.choice.Verdict.TheVariants as verdicts
 use Rattle.codec_payload_receiver.specs.declared.receiver.ReceiveError.{ReceiveError}
 use Rattle.codec_payload_receiver.specs.declared.receiver.ReceiveError.TheVariants as errors
 

@@ -5,7 +5,7 @@ use Rattle.codec_payload_jitter.specs.declared.outcome.Outcome.{Outcome}
 use Rattle.codec_payload_keyframes.specs.References.{no_references}
 use Rattle.codec_payload_keyframes.specs.declared.references.UnitReferences.{UnitReferences}
 use Rattle.codec_payload_references.specs.Notes.{Notes}
-use Rattle.codec_payload_receiver.specs.Kinds.{Datagram, Kinds}
+use Rattle.codec_payload_datagrams.specs.Kinds.{Datagram, Kinds}
 use Rattle.codec_payload_receiver.specs.Noting.{TakesRange, no_notes, notes_after, notes_in, noting_of, without_room}
 use Rattle.codec_payload_receiver.specs.declared.notes.StreamNotes.{StreamNotes}
 

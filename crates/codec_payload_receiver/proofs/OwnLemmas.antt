@@ -6,7 +6,7 @@ use Rattle.codec_payload_jitter.proofs.OwnLemmas.{pops_with_stays, settled_stays
 use Rattle.codec_payload_jitter.specs.Receiving.{settled, waiting_at}
 use Rattle.codec_payload_receiver.specs.Pops.{DropsUnits, Answer, PopsOnce, none_dropped, one_more}
 use Rattle.codec_payload_receiver.specs.Sessions.{Keeps, Session}
-use Rattle.codec_payload_receiver.specs.declared.choice.Origin.{Origin}
+use Rattle.codec_payload_datagrams.specs.declared.choice.Origin.{Origin}
 use Rattle.codec_payload_receiver.specs.declared.receiver.ReceiveError.{ReceiveError}
 use Rattle.codec_payload_jitter.specs.declared.outcome.Outcome.{Outcome}
 

@@ -2,8 +2,8 @@
 use Rattle.std.proofs.Common.{◌≡◌, ◌∙◌, refl, sym, ap, subst, cond, ℕ, zero, suc, ◌+◌, ◌%◌, ◌<◌, ◌≤◌, ◌==◌, ◌&&◌, ◌||◌, Bool, true, false, List, [], ◌∷◌, length, Option, Some, None, arith, slice_get, slice_set}
 use Rattle.std.proofs.lemmas.Bool.{eq-eqb}
 use Rattle.codec_payload_receiver.specs.RedOnce.{Received, AreStoredByRule, StoresEachTimeOnce, repeats}
-use Rattle.codec_payload_receiver.specs.SeenTimes.{Seen, has_block, is_seen, none_seen, seen_with}
-use Rattle.codec_payload_receiver.specs.declared.seen_times.SeenTime.{SeenTime}
+use Rattle.codec_payload_numbers.specs.SeenTimes.{Seen, has_block, is_seen, none_seen, seen_with}
+use Rattle.codec_payload_numbers.specs.declared.seen_times.SeenTime.{SeenTime}
 
 -- Lists in which one place is set
 

@@ -4,15 +4,15 @@ use Rattle.std.specs.Prelude.{map, nat_lt}
 use Rattle.std.specs.Option.{is_some}
 use Rattle.codec_payload_base.specs.declared.wire.RtpHeader.{RtpHeader}
 use Rattle.codec_payload_base.specs.declared.wire.Ticks.{Ticks}
-use Rattle.codec_payload_jitter.specs.Numbers.{Numbering, answer_above, answer_by, answer_for, answer_anew, is_restarting, number_within, without_restart}
+use Rattle.codec_payload_numbers.specs.Numbers.{Numbering, answer_above, answer_by, answer_for, answer_anew, is_restarting, number_within, without_restart}
 use Rattle.codec_payload_jitter.specs.Receiving.{Receiving, Arrival, ReceivesAs, ReceivesAgainAs, RecoversAs, RecoversIf, answer_by_time, answer_in, answer_to, answer_to_contradiction, follows_kept, is_contradicted, is_of_former_sender, is_stored, may_recover, next, number_again, number_again_for, would_store, would_store_at}
-use Rattle.codec_payload_jitter.specs.declared.numbers.Extended.{Extended}
-use Rattle.codec_payload_jitter.specs.declared.numbers.Extended.TheVariants as extended
+use Rattle.codec_payload_numbers.specs.declared.numbers.Extended.{Extended}
+use Rattle.codec_payload_numbers.specs.declared.numbers.Extended.TheVariants as extended
 use Rattle.codec_payload_jitter.specs.declared.outcome.Outcome.{Outcome}
-use Rattle.codec_payload_receiver.specs.Kinds.{Kinds, Carrier, RtcpPacket, Malformed, OfOthers, WithoutMedia, WithMedia, InRed, Again, AgainInRed, AgainEmpty, header_for, original_header}
+use Rattle.codec_payload_datagrams.specs.Kinds.{Kinds, Carrier, RtcpPacket, Malformed, OfOthers, WithoutMedia, WithMedia, InRed, Again, AgainInRed, AgainEmpty, header_for, original_header}
 use Rattle.codec_payload_receiver.specs.RedOnce.{AreListed, AreStoredByRule, HasNoBlock, IsForgotten, ReceivesByRule, block_at, packet_with, repeats, seen_after, seen_since, times_since}
-use Rattle.codec_payload_receiver.specs.SeenTimes.{Seen, has_block, is_seen, none_seen}
-use Rattle.codec_payload_receiver.specs.Sessions.{Holding, NotesAgain, block_seen, has_restarted, RecoversAll, RecoversUnless, RecoversUnseen, TakesAgain, TakesDatagram, TakesMedia, TakesPrimaryAgain, TakesPrimaryIf, all_carried, is_own_media, is_repeat, is_restart, is_suspect, packet_seen, primary_seen, seen_past}
+use Rattle.codec_payload_numbers.specs.SeenTimes.{Seen, has_block, is_seen, none_seen, seen_past}
+use Rattle.codec_payload_receiver.specs.Sessions.{Holding, NotesAgain, block_seen, has_restarted, RecoversAll, RecoversUnless, RecoversUnseen, TakesAgain, TakesDatagram, TakesMedia, TakesPrimaryAgain, TakesPrimaryIf, all_carried, is_own_media, is_repeat, is_restart, is_suspect, packet_seen, primary_seen}
 use Rattle.codec_payload_receiver.proofs.BlockTimeLemmas.{new_has_no_block, packet_has_no_block, past_has_no_block}
 use Rattle.codec_payload_receiver.proofs.SessionLemmas.{Balance, accepts_balance, accepts_restarts, media_balance, primary_again_balance, primary_balance, sent_again_balance}
 

@@ -3,19 +3,19 @@ use Rattle.std.proofs.Common.{◌≡◌, ◌⊎◌, ◌∙◌, refl, ap, sym, su
 use Rattle.codec_payload_base.specs.declared.wire.Ticks.{Ticks}
 use Rattle.codec_payload_jitter.specs.Receiving.{Receiving, Arrival, Confirms, GoesOn, ReceivesAs, ReceivesAgainAs, RecoversAs, RecoversIf, NotesAs, would_store}
 use Rattle.codec_payload_jitter.specs.Receiving.{Accepts, counted, counted_again, counted_in_again, is_stored, may_recover, next, number_again_for}
-use Rattle.codec_payload_jitter.specs.declared.numbers.Extended.{Extended}
-use Rattle.codec_payload_jitter.specs.declared.numbers.Extended.TheVariants as extended
+use Rattle.codec_payload_numbers.specs.declared.numbers.Extended.{Extended}
+use Rattle.codec_payload_numbers.specs.declared.numbers.Extended.TheVariants as extended
 use Rattle.codec_payload_jitter.specs.declared.outcome.Outcome.{Outcome}
 use Rattle.codec_payload_jitter.specs.declared.outcome.Outcome.TheVariants as outcomes
 use Rattle.codec_payload_jitter.specs.declared.outcome.PacketCounters.{PacketCounters}
-use Rattle.codec_payload_receiver.specs.Choice.{latest_after, origin_of}
-use Rattle.codec_payload_receiver.specs.Kinds.{Kinds, Carrier, Datagram, RtcpPacket, Malformed, OfOthers, WithoutMedia, WithMedia, InRed, Again, AgainInRed, AgainEmpty}
+use Rattle.codec_payload_datagrams.specs.Choice.{latest_after, origin_of}
+use Rattle.codec_payload_datagrams.specs.Kinds.{Kinds, Carrier, Datagram, RtcpPacket, Malformed, OfOthers, WithoutMedia, WithMedia, InRed, Again, AgainInRed, AgainEmpty}
 use Rattle.codec_payload_receiver.specs.Noting.{notes_after}
-use Rattle.codec_payload_receiver.specs.SeenTimes.{Seen, is_seen}
+use Rattle.codec_payload_numbers.specs.SeenTimes.{Seen, is_seen}
 use Rattle.codec_payload_receiver.specs.Sessions.{Holding, NotesAgain, Session, TakesAgain, TakesDatagram, TakesMedia, TakesPrimaryAgain, TakesPrimaryIf, RecoversOne, RecoversUnseen, RecoversAll, RecoversUnless, AnswersFor}
 use Rattle.codec_payload_receiver.specs.Sessions.{Heard, IsSorted, all_carried, arrived_with, ssrc_after, is_own_media, is_repeat, is_suspect, error_of, reception_after, told_of_red}
-use Rattle.codec_payload_receiver.specs.declared.datagram.Malformation.{Malformation}
-use Rattle.codec_payload_receiver.specs.declared.datagram.Malformation.TheVariants as malformations
+use Rattle.codec_payload_datagrams.specs.declared.kinds.Malformation.{Malformation}
+use Rattle.codec_payload_datagrams.specs.declared.kinds.Malformation.TheVariants as malformations
 use Rattle.codec_payload_receiver.specs.declared.receiver.Arrived.{Arrived}
 use Rattle.codec_payload_receiver.specs.declared.receiver.ReceiveError.{ReceiveError}
 use Rattle.codec_payload_receiver.specs.declared.receiver.ReceiveError.TheVariants as errors

@@ -4,8 +4,8 @@ use Rattle.codec_payload_base.specs.declared.wire.Ticks.{Ticks}
 use Rattle.codec_payload_rtp.specs.RtpPackets.{Packet}
 use Rattle.codec_payload_jitter.specs.Receiving.{Arrival, Receiving}
 use Rattle.codec_payload_jitter.specs.declared.outcome.Outcome.{Outcome}
-use Rattle.codec_payload_receiver.specs.Kinds.{Again, AgainInRed, Carrier, InRed, Kinds, Original, WithMedia, header_for, original_header}
-use Rattle.codec_payload_receiver.specs.SeenTimes.{Seen}
+use Rattle.codec_payload_datagrams.specs.Kinds.{Again, AgainInRed, Carrier, InRed, Kinds, Original, WithMedia, header_for, original_header}
+use Rattle.codec_payload_numbers.specs.SeenTimes.{Seen}
 use Rattle.codec_payload_receiver.specs.Sessions.{Holding, TakesAgain, TakesDatagram, TakesMedia, TakesPrimaryAgain, TakesPrimaryIf, all_carried, is_own_media, is_repeat}
 use Rattle.codec_payload_receiver.specs.Storing.{StoresAs, TakesAlone, TakesBrought, first_brought, in_carrier, repeated_by}
 

@@ -5,7 +5,7 @@ use Rattle.codec_payload_jitter.specs.declared.waiting.WaitLimits.{WaitLimits}
 use Rattle.codec_payload_keyframes.specs.Keyframes.{is_video}
 use Rattle.codec_payload_keyframes.specs.declared.unit_gate.FromKeyframe.TheVariants as modes
 use Rattle.codec_payload_rtp.specs.declared.values.ExtensionIds.{ExtensionIds}
-use Rattle.codec_payload_receiver.specs.declared.windows.Windows.{Windows}
+use Rattle.codec_payload_numbers.specs.declared.windows.Windows.{Windows}
 use Rattle.codec_payload_receiver.specs.declared.receiver.Settings.{Settings}
 
 -- no header extension has an id

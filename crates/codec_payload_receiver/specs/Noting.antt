@@ -5,8 +5,8 @@ use Rattle.codec_payload_base.specs.declared.error.PacketError.{PacketError}
 use Rattle.codec_payload_base.specs.Extended.{extended}
 use Rattle.codec_payload_base.specs.declared.wire.Codec.{Codec}
 use Rattle.codec_payload_base.specs.declared.wire.Codec.TheVariants as codecs
-use Rattle.codec_payload_buffer.specs.Release.{IsFirst, IsLast, Release}
-use Rattle.codec_payload_buffer.specs.declared.buffer.unit.RtpMeta.{RtpMeta}
+use Rattle.codec_payload_metadata.specs.Release.{IsFirst, IsLast, Release}
+use Rattle.codec_payload_metadata.specs.declared.meta.RtpMeta.{RtpMeta}
 use Rattle.codec_payload_jitter.specs.declared.outcome.Outcome.{Outcome}
 use Rattle.codec_payload_jitter.specs.declared.outcome.Outcome.TheVariants as outcomes
 use Rattle.codec_payload_keyframes.specs.declared.unit_gate.FromKeyframe.{FromKeyframe}
@@ -18,7 +18,7 @@ use Rattle.codec_payload_references.specs.Notes.{IsTaken, Notes, inserted}
 use Rattle.codec_payload_rtp.specs.ExtensionFormats.{bytes_for, elements_of}
 use Rattle.codec_payload_rtp.specs.RtpPackets.{Extension}
 use Rattle.codec_payload_rtp.specs.RtpValues.{extension_of}
-use Rattle.codec_payload_receiver.specs.Kinds.{Again, AgainEmpty, AgainInRed, Carrier, Datagram, InRed, Kinds, Malformed, OfOthers, RtcpPacket, WithMedia, WithoutMedia}
+use Rattle.codec_payload_datagrams.specs.Kinds.{Again, AgainEmpty, AgainInRed, Carrier, Datagram, InRed, Kinds, Malformed, OfOthers, RtcpPacket, WithMedia, WithoutMedia}
 use Rattle.codec_payload_receiver.specs.declared.notes.Media.{Media}
 use Rattle.codec_payload_receiver.specs.declared.notes.PendingNote.{PendingNote}
 use Rattle.codec_payload_receiver.specs.declared.notes.StreamNotes.{StreamNotes}

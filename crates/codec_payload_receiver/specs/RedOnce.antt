@@ -4,10 +4,10 @@ use Rattle.std.specs.Option.{is_some}
 use Rattle.codec_payload_base.specs.declared.wire.Ticks.{Ticks}
 use Rattle.codec_payload_jitter.specs.Receiving.{is_stored}
 use Rattle.codec_payload_jitter.specs.declared.outcome.Outcome.{Outcome}
-use Rattle.codec_payload_receiver.specs.Kinds.{Kinds, Datagram, RtcpPacket, Malformed, OfOthers, WithoutMedia, WithMedia, InRed, Again, AgainInRed, AgainEmpty}
-use Rattle.codec_payload_receiver.specs.SeenTimes.{Seen, has_block, is_seen, none_seen, seen_with}
-use Rattle.codec_payload_receiver.specs.Sessions.{Holding, TakesDatagram, has_restarted, is_own_media, is_restart, seen_past}
-use Rattle.codec_payload_receiver.specs.declared.seen_times.SeenTime.{SeenTime}
+use Rattle.codec_payload_datagrams.specs.Kinds.{Kinds, Datagram, RtcpPacket, Malformed, OfOthers, WithoutMedia, WithMedia, InRed, Again, AgainInRed, AgainEmpty}
+use Rattle.codec_payload_numbers.specs.SeenTimes.{Seen, has_block, is_seen, none_seen, seen_with, seen_past}
+use Rattle.codec_payload_receiver.specs.Sessions.{Holding, TakesDatagram, has_restarted, is_own_media, is_restart}
+use Rattle.codec_payload_numbers.specs.declared.seen_times.SeenTime.{SeenTime}
 
 -- a packet or a block that was received after the latest restart: its RTP time, and whether it was stored
 pub record Received : Type 0 where

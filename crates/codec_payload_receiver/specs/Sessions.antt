@@ -11,38 +11,38 @@ use Rattle.codec_payload_rtp.specs.ExtendedTimes.{extended_time}
 use Rattle.codec_payload_base.specs.declared.wire.Codec.{Codec}
 use Rattle.codec_payload_base.specs.declared.wire.Codec.TheVariants as codecs
 use Rattle.codec_payload_codec.specs.Depacketizers.{DepacketizerKind, DepacketizerState, kind_of_depacketizer, G711Payloads, OpusPayloads, ComfortNoisePayloads, TelePayloads, Vp8Payloads, Vp9Payloads, Av1Payloads, AmrWbPayloads, NullPayloads, BoxedPayloads}
-use Rattle.codec_payload_buffer.specs.Release.{Release}
+use Rattle.codec_payload_metadata.specs.Release.{Release}
 use Rattle.codec_payload_buffer.specs.Steps.{empty_buffer}
-use Rattle.codec_payload_jitter.specs.Numbers.{Numbering, numbering_within}
+use Rattle.codec_payload_numbers.specs.Numbers.{Numbering, numbering_within}
 use Rattle.codec_payload_jitter.specs.Receiving.{Receiving, Arrival, Notes, Receives, ReceivesAgain, Recovers, begun_anew, counted, next, no_packets, would_store}
 use Rattle.codec_payload_jitter.specs.Waiting.{most_held_back, room_for}
-use Rattle.codec_payload_jitter.specs.declared.numbers.WindowError.{WindowError}
-use Rattle.codec_payload_jitter.specs.declared.numbers.WindowError.TheVariants as windows
+use Rattle.codec_payload_numbers.specs.declared.numbers.WindowError.{WindowError}
+use Rattle.codec_payload_numbers.specs.declared.numbers.WindowError.TheVariants as windows
 use Rattle.codec_payload_jitter.specs.declared.outcome.Outcome.{Outcome}
 use Rattle.codec_payload_jitter.specs.declared.outcome.Outcome.TheVariants as outcomes
 use Rattle.codec_payload_jitter.specs.declared.outcome.PacketCounters.{PacketCounters}
 use Rattle.codec_payload_keyframes.specs.UnitGates.{Gating, new_gating, with_skip}
-use Rattle.codec_payload_receiver.specs.Choice.{Choosing, IsCandidate, is_silent, latest_after, leaving, no_choice, origin_of, verdict_of, waiting_with}
-use Rattle.codec_payload_receiver.specs.Kinds.{Kinds, Carrier, Datagram, RtcpPacket, Malformed, OfOthers, WithoutMedia, WithMedia, InRed, Again, AgainInRed, AgainEmpty, block_header, datagram_at, header_for, original_header, takes_memory}
-use Rattle.codec_payload_receiver.specs.SeenTimes.{Seen, has_block, is_seen, none_seen, seen_with}
-use Rattle.codec_payload_receiver.specs.Reports.{Reception, no_reception, observed, reception_anew, reception_since}
+use Rattle.codec_payload_datagrams.specs.Choice.{Choosing, IsCandidate, is_silent, latest_after, leaving, no_choice, origin_of, verdict_of, waiting_with}
+use Rattle.codec_payload_datagrams.specs.Kinds.{Kinds, Carrier, Datagram, RtcpPacket, Malformed, OfOthers, WithoutMedia, WithMedia, InRed, Again, AgainInRed, AgainEmpty, block_header, datagram_at, header_for, original_header, takes_memory}
+use Rattle.codec_payload_numbers.specs.SeenTimes.{Seen, has_block, is_seen, none_seen, seen_with, seen_past}
+use Rattle.codec_payload_numbers.specs.Reports.{Reception, no_reception, observed, reception_anew, reception_since}
 use Rattle.codec_payload_receiver.specs.Bounds.{new_bound}
 use Rattle.codec_payload_receiver.specs.Noting.{Noting, forgotten, new_noting, notes_after}
 use Rattle.codec_payload_receiver.specs.declared.blocks.BlockCopy.{BlockCopy}
 use Rattle.codec_payload_receiver.specs.declared.bound.UnitBound.{UnitBound}
-use Rattle.codec_payload_receiver.specs.declared.choice.Candidate.{Candidate}
-use Rattle.codec_payload_receiver.specs.declared.choice.Origin.{Origin}
-use Rattle.codec_payload_receiver.specs.declared.choice.Verdict.{Verdict}
-use Rattle.codec_payload_receiver.specs.declared.choice.Verdict.TheVariants as verdicts
-use Rattle.codec_payload_receiver.specs.declared.datagram.Malformation.{Malformation}
-use Rattle.codec_payload_receiver.specs.declared.datagram.Malformation.TheVariants as malformations
-use Rattle.codec_payload_receiver.specs.declared.datagram.RedStream.{RedStream}
+use Rattle.codec_payload_datagrams.specs.declared.choice.Candidate.{Candidate}
+use Rattle.codec_payload_datagrams.specs.declared.choice.Origin.{Origin}
+use Rattle.codec_payload_datagrams.specs.declared.choice.Verdict.{Verdict}
+use Rattle.codec_payload_datagrams.specs.declared.choice.Verdict.TheVariants as verdicts
+use Rattle.codec_payload_datagrams.specs.declared.kinds.Malformation.{Malformation}
+use Rattle.codec_payload_datagrams.specs.declared.kinds.Malformation.TheVariants as malformations
+use Rattle.codec_payload_datagrams.specs.declared.kinds.RedStream.{RedStream}
 use Rattle.codec_payload_receiver.specs.declared.receiver.Arrived.{Arrived}
 use Rattle.codec_payload_receiver.specs.declared.receiver.Counters.{Counters}
 use Rattle.codec_payload_receiver.specs.declared.receiver.ReceiveError.{ReceiveError}
 use Rattle.codec_payload_receiver.specs.declared.receiver.ReceiveError.TheVariants as errors
 use Rattle.codec_payload_receiver.specs.declared.receiver.RedSettings.{RedSettings}
-use Rattle.codec_payload_receiver.specs.declared.receiver.Retransmission.{Retransmission}
+use Rattle.codec_payload_datagrams.specs.declared.kinds.Retransmission.{Retransmission}
 use Rattle.codec_payload_receiver.specs.declared.receiver.Settings.{Settings}
 use Rattle.codec_payload_receiver.specs.declared.receiver.SettingsError.{SettingsError}
 use Rattle.codec_payload_receiver.specs.declared.receiver.SettingsError.TheVariants as settings
@@ -174,11 +174,6 @@ packet_seen true outcome time seen = seen_with (record { time = time; is_block =
 -- between these two states of the jitter buffer a restart was confirmed: the restarts are counted
 abbrev pub has_restarted : (before after : Receiving) → Bool
 has_restarted before after = not (after.counters.restarts == before.counters.restarts)
-
--- a number without media is not noted, and a restart that it confirms forgets all earlier times
-abbrev pub seen_past : (has_restarted : Bool) → Seen → Seen
-seen_past true seen = none_seen
-seen_past false seen = seen
 
 -- the primary block of a RED packet, which may have no media of the stream
 abbrev pub primary_seen : (is_media : Bool) → Outcome → ℕ → (has_restarted : Bool) → Seen → Seen

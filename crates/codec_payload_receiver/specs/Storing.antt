@@ -6,9 +6,9 @@ use Rattle.codec_payload_rtp.specs.RtpPackets.{Header, Packet}
 use Rattle.codec_payload_rtp.specs.RtpValues.{header_of}
 use Rattle.codec_payload_jitter.specs.Receiving.{Arrival, Receives, ReceivesAgain, Receiving, would_store}
 use Rattle.codec_payload_jitter.specs.declared.outcome.Outcome.{Outcome}
-use Rattle.codec_payload_receiver.specs.Kinds.{Carrier, Kinds, Original, header_for}
-use Rattle.codec_payload_receiver.specs.SeenTimes.{Seen}
-use Rattle.codec_payload_receiver.specs.Sessions.{Holding, NotesAgain, RecoversUnless, has_restarted, is_own_media, is_repeat, is_suspect, packet_seen, primary_seen, seen_past}
+use Rattle.codec_payload_datagrams.specs.Kinds.{Carrier, Kinds, Original, header_for}
+use Rattle.codec_payload_numbers.specs.SeenTimes.{Seen, seen_past}
+use Rattle.codec_payload_receiver.specs.Sessions.{Holding, NotesAgain, RecoversUnless, has_restarted, is_own_media, is_repeat, is_suspect, packet_seen, primary_seen}
 use Rattle.codec_payload_receiver.specs.declared.brought.Brought.{Brought as LentBrought}
 
 -- a packet: its header, in which a retransmission has the original number and SSRC, its payload, whether it is media of the stream,

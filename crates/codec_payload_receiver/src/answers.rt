@@ -1,13 +1,13 @@
 //! The answer of a receiver to a datagram.
 
 ghost use Rattle.std.specs.Prelude.{◌≡◌, ◌↔◌, IsTrue, Result};
-ghost use Rattle.codec_payload_receiver.specs.Kinds.{datagram_of};
+ghost use Rattle.codec_payload_datagrams.specs.Kinds.{datagram_of};
 ghost use Rattle.codec_payload_receiver.specs.Sessions.{AnswersFor, error_of};
 ghost use Rattle.codec_payload_receiver.specs.declared.receiver.ReceiveError.TheVariants as errors;
 
-use crate::datagram::{Datagram, Malformation};
 use crate::receiver::ReceiveError;
 use crate::storing::Taken;
+use codec_payload_datagrams::kinds::{Datagram, Malformation};
 use codec_payload_jitter::jitter::Outcome;
 
 /// Returns whether memory ran out.

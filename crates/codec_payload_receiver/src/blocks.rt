@@ -7,14 +7,15 @@ ghost use Rattle.codec_payload_red.specs.RedRecovery.{packet_of as recovered_of}
 ghost use Rattle.std.specs.List.{filter_map};
 ghost use Rattle.codec_payload_codec.specs.Depacketizers.{is_built_in_depacketizer};
 ghost use Rattle.codec_payload_jitter.specs.OwnReceiving.{OwnStores};
-ghost use Rattle.codec_payload_receiver.specs.Kinds.{block_header, carrier_of};
+ghost use Rattle.codec_payload_datagrams.specs.Kinds.{block_header, carrier_of};
 ghost use Rattle.codec_payload_receiver.specs.Sessions.{RecoversAll, all_carried, block_seen, carried, copied};
 
-use crate::datagram::{RedPacket, StreamKinds};
-use crate::seen_times::{SeenTime, SeenTimes};
+use crate::datagram::StreamKinds;
 use codec_payload_base::wire::{ExtensionValues, Pt, RtpHeader, SeqNo, Ticks};
 use codec_payload_codec::codec::Depacketizer;
+use codec_payload_datagrams::kinds::RedPacket;
 use codec_payload_jitter::jitter::JitterBuffer;
+use codec_payload_numbers::seen_times::{SeenTime, SeenTimes};
 use codec_payload_red::red::{Recovered, RedBlock};
 use std::alloc::AllocError;
 use std::collections::VecDeque;

@@ -2,10 +2,11 @@
 
 ghost use Rattle.std.specs.Prelude.{◌≡◌};
 ghost use Rattle.codec_payload_rtp.specs.RtpValues.{packet_of};
-ghost use Rattle.codec_payload_receiver.specs.Kinds.{carrier_of, original_of};
+ghost use Rattle.codec_payload_datagrams.specs.Kinds.{carrier_of, original_of};
 ghost use Rattle.codec_payload_receiver.specs.Storing.{brought_of, first_brought, in_carrier, repeated_by};
 
-use crate::datagram::{RedPacket, SentAgain, StreamKinds};
+use crate::datagram::StreamKinds;
+use codec_payload_datagrams::kinds::{RedPacket, SentAgain};
 use codec_payload_rtp::rtp::{PacketHeader, RtpPacket};
 
 /// A packet that a datagram brings, alone or as the primary block of RED. The header of a retransmission has the original number

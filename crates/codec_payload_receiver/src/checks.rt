@@ -3,8 +3,8 @@
 ghost use Rattle.std.specs.Prelude.{◌≡◌};
 ghost use Rattle.codec_payload_receiver.specs.Sessions.{packets_at_once, red_within, retransmission_fits};
 
-use crate::datagram::RedStream;
-use crate::receiver::{RedSettings, Retransmission, SettingsError};
+use crate::receiver::{RedSettings, SettingsError};
+use codec_payload_datagrams::kinds::{RedStream, Retransmission};
 use codec_payload_red::red::RedReceiver;
 
 /// Places that are kept free with RED: for the primary block of a packet, a suspect packet, and eight redundant blocks.

@@ -5,11 +5,11 @@ ghost use Rattle.codec_payload_jitter.specs.Waiting.{waits_by_number, waits_for}
 ghost use Rattle.codec_payload_receiver.specs.Defaults.{HasDefaults, audio_windows, video_windows, windows_of};
 
 use crate::receiver::Settings;
-use crate::windows::Windows;
 use codec_payload_base::wire::{Codec, Frequency};
 use codec_payload_jitter::jitter::WaitLimits;
 use codec_payload_keyframes::gate::is_video;
 use codec_payload_keyframes::unit_gate::FromKeyframe;
+use codec_payload_numbers::windows::Windows;
 use codec_payload_rtp::values::ExtensionIds;
 use std::alloc::Global;
 
@@ -67,7 +67,7 @@ impl Settings {
     ///
     /// Allocates nothing.
     ///
-    /// [`Windows::for_rate`]: crate::windows::Windows::for_rate
+    /// [`Windows::for_rate`]: codec_payload_numbers::windows::Windows::for_rate
     pub fn live_audio(alloc: Global, payload_type: u8, clock_rate: Frequency) -> Settings
         ensures { HasDefaults payload_type clock_rate (waits_for 1 100) audio_windows result }
     {
@@ -92,7 +92,7 @@ impl Settings {
     /// 12,000 packets ahead and 5,000 behind. For more than 1,000 packets per second set the windows of [`Windows::for_rate`].
     /// The rest is as in [`Settings::live_audio`].
     ///
-    /// [`Windows::for_rate`]: crate::windows::Windows::for_rate
+    /// [`Windows::for_rate`]: codec_payload_numbers::windows::Windows::for_rate
     pub fn live_video(alloc: Global, payload_type: u8, clock_rate: Frequency) -> Settings
         ensures { HasDefaults payload_type clock_rate (waits_for 1 100) video_windows result }
     {

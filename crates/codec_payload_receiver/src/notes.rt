@@ -5,17 +5,19 @@ ghost use Rattle.std.specs.Option.{option_map};
 ghost use Rattle.codec_payload_base.specs.Extended.{extended};
 ghost use Rattle.codec_payload_buffer.specs.Steps.{HasPacketsIn, popped_to};
 ghost use Rattle.codec_payload_codec.specs.Depacketizers.{depacketizer_state_of, kind_of_depacketizer};
-ghost use Rattle.codec_payload_receiver.specs.Kinds.{carrier_of, datagram_of, takes_memory};
+ghost use Rattle.codec_payload_datagrams.specs.Kinds.{carrier_of, datagram_of, takes_memory};
+ghost use Rattle.codec_payload_keyframes.specs.References.{no_references};
 ghost use Rattle.codec_payload_receiver.specs.Noting.{HasRoom, HasRoomFor, HasRoomIf, TakesNotes, TakesRange, forgetting, forgotten, media_in, media_of, new_noting, noted, noted_with, noting_of, pending_by, pending_in, primary_media, settled_by, with_kept_if, with_note, without_room};
 ghost use Rattle.codec_payload_receiver.specs.Sessions.{video_codec};
 
-use crate::datagram::{Datagram, RedPacket, StreamKinds};
+use crate::datagram::StreamKinds;
 use crate::gated::video_codec_of;
 use crate::receiver::Settings;
 use codec_payload_base::error::PacketError;
 use codec_payload_base::wire::Codec;
 use codec_payload_buffer::buffer::{Depacketized, PoppedUnit};
 use codec_payload_codec::codec::CodecDepacketizer;
+use codec_payload_datagrams::kinds::{Datagram, RedPacket};
 use codec_payload_jitter::jitter::Outcome;
 use codec_payload_keyframes::references::UnitReferences;
 use codec_payload_keyframes::unit_gate::FromKeyframe;
@@ -307,24 +309,26 @@ pub(crate) fn take_notes(
     }
 }
 
-/// Does the same for an answer whose unit is in memory that is used again.
+/// Does the same for an answer whose unit is in memory that is used again, and writes what it refers to.
 #[inline(always)]
 pub(crate) fn take_notes_in(
     notes: &mut Option<StreamNotes>,
     answer: &Option<Result<(), PacketError>>,
     unit: &PoppedUnit,
-) -> UnitReferences
-    requires { HasPacketsIn answer.now unit.now }
-    ensures { TakesNotes (popped_to answer.now unit.now) (option_map noting_of notes.old) result (option_map noting_of notes.new) }
+    references: &mut UnitReferences,
+)
+    requires packets { HasPacketsIn answer.now unit.now }
+    requires none { references.old ≡ no_references }
+    ensures { TakesNotes (popped_to answer.now unit.now) (option_map noting_of notes.old) references.new (option_map noting_of notes.new) }
 {
     let Some(notes) = notes else {
-        return UnitReferences::none();
+        return;
     };
     match answer {
         Some(Ok(())) => {
             let range = unit.seq_range();
-            notes.take(range.start().0, range.end().0)
+            *references = notes.take(range.start().0, range.end().0);
         }
-        _ => UnitReferences::none(),
+        _ => {}
     }
 }

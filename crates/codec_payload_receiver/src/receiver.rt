@@ -7,8 +7,8 @@ ghost use Rattle.codec_payload_jitter.specs.Missing.{missing_numbers};
 ghost use Rattle.codec_payload_jitter.specs.OwnReceiving.{OwnStores};
 ghost use Rattle.codec_payload_jitter.specs.Receiving.{deadline_of, is_pressed};
 ghost use Rattle.codec_payload_receiver.specs.Bounds.{counters_with};
-ghost use Rattle.codec_payload_receiver.specs.Kinds.{datagram_at, datagram_of, retransmitted_under, takes_memory};
-ghost use Rattle.codec_payload_receiver.specs.Reports.{report_of, reported};
+ghost use Rattle.codec_payload_datagrams.specs.Kinds.{datagram_at, datagram_of, retransmitted_under, takes_memory};
+ghost use Rattle.codec_payload_numbers.specs.Reports.{report_of, reported};
 ghost use Rattle.codec_payload_receiver.specs.Sessions.{Chooses, Finishes, Heard, IsAccountedFor, Keeps, ReceivesBy, ReceivesBytes, SettlesOn, arrived_with, first_waiting, gone_over_to, is_open, nothing_arrived, observed_in, restarted, session_by, session_with, ssrc_after, turned_away, verdict_in};
 
 mod hearing;
@@ -18,21 +18,23 @@ mod unit_pops;
 use crate::answers::is_out_of_memory;
 use crate::bound::UnitBound;
 use crate::checks::{packets_at_once, red_of, retransmission_fits};
-use crate::choice::{Choice, Origin, Verdict};
-use crate::datagram::{Datagram, RedStream, StreamKinds};
+use crate::datagram::StreamKinds;
 use crate::gated::gate_for;
 use crate::notes::{StreamNotes, forget_suspect, notes_for};
-use crate::parsed::ParsedDatagram;
 use crate::reports::{ReceptionReport, ReceptionStatistics};
-use crate::seen_times::LazySeenTimes;
 use codec_payload_base::error::PacketError;
 use codec_payload_base::wire::{Frequency, Ticks};
 use codec_payload_buffer::buffer::DepacketizingBuffer;
 use codec_payload_codec::codec::{CodecDepacketizer, Depacketizer, NoBox};
+use codec_payload_datagrams::choice::{Choice, Origin, Verdict};
+pub use codec_payload_datagrams::kinds::Retransmission;
+use codec_payload_datagrams::kinds::{Datagram, RedStream};
+use codec_payload_datagrams::parsed::ParsedDatagram;
 use codec_payload_jitter::jitter::{JitterBuffer, Outcome, PacketCounters, WaitLimits};
 use codec_payload_jitter::missing::MissingNumbers;
-use codec_payload_jitter::numbers::{SequenceNumbers, WindowError};
 use codec_payload_keyframes::unit_gate::{FromKeyframe, UnitGate};
+use codec_payload_numbers::numbers::{SequenceNumbers, WindowError};
+use codec_payload_numbers::seen_times::LazySeenTimes;
 use codec_payload_rtp::rtp::RtpError;
 use codec_payload_rtp::times::RtpTimes;
 use codec_payload_rtp::values::ExtensionIds;
@@ -53,14 +55,6 @@ pub struct RedSettings {
     /// of RED. Their SSRC is that of [`Settings::retransmission`], and without such settings there are none. It differs from all
     /// other payload types of the settings. `None`: retransmitted RED is not read.
     pub retransmission: Option<u8>,
-}
-
-/// The SSRC and payload type of retransmissions (RFC 4588).
-#[derive(Clone, Copy, Debug, PartialEq, Eq)]
-pub struct Retransmission {
-    pub ssrc: u32,
-    /// The payload type of retransmissions, 0 to 127.
-    pub payload_type: u8,
 }
 
 /// The settings of a receiver.
@@ -220,7 +214,7 @@ pub struct Receiver<B = NoBox> {
 impl<B> Model for Receiver<B> {
     ghost use Rattle.std.specs.Option.{option_map};
     ghost use Rattle.codec_payload_receiver.specs.Noting.{noting_of};
-    ghost use Rattle.codec_payload_receiver.specs.Reports.{report_of, reported};
+    ghost use Rattle.codec_payload_numbers.specs.Reports.{report_of, reported};
     ghost use Rattle.codec_payload_receiver.specs.Sessions.{Session, IsSorted};
 
     ghost Value = { Session };

@@ -5,18 +5,19 @@ ghost use Rattle.codec_payload_rtp.specs.RtpValues.{header_of, packet_of};
 ghost use Rattle.codec_payload_codec.specs.Depacketizers.{is_built_in_depacketizer};
 ghost use Rattle.codec_payload_jitter.specs.OwnReceiving.{OwnStores};
 ghost use Rattle.codec_payload_jitter.specs.Receiving.{would_store};
-ghost use Rattle.codec_payload_receiver.specs.Kinds.{WithMedia, datagram_of, header_for, takes_memory};
+ghost use Rattle.codec_payload_datagrams.specs.Kinds.{WithMedia, datagram_of, header_for, takes_memory};
 ghost use Rattle.codec_payload_receiver.specs.Sessions.{NotesAgain, TakesDatagram, copied, primary_seen};
 ghost use Rattle.codec_payload_receiver.specs.Storing.{ReceivesEither, Stores, TakesAlone, TakesBrought, brought_of};
 
 use crate::blocks::{BlockCopy, copy_blocks, recover_all};
 use crate::brought::Brought;
-use crate::datagram::{Datagram, StreamKinds};
-use crate::seen_times::{LazySeenTimes, SeenTime, SeenTimes};
+use crate::datagram::StreamKinds;
 use codec_payload_base::wire::{Pt, RtpHeader, Ticks};
 use codec_payload_buffer::buffer::PackedHeader;
 use codec_payload_codec::codec::Depacketizer;
+use codec_payload_datagrams::kinds::Datagram;
 use codec_payload_jitter::jitter::{JitterBuffer, Outcome};
+use codec_payload_numbers::seen_times::{LazySeenTimes, SeenTime, SeenTimes};
 use codec_payload_rtp::rtp::{PacketHeader, RtpPacket};
 use std::alloc::AllocError;
 use std::collections::VecDeque;
@@ -202,6 +203,22 @@ impl StreamKinds {
         if self.red.is_none() {
             return self.push(packets, now, &packet.header, packet.payload, false);
         }
+        self.take_with_red(packets, seen, now, packet)
+    }
+
+    /// Does the same for a stream with RED. The large value is made out of the way of others.
+    #[inline(never)]
+    fn take_with_red<B: Depacketizer>(
+        &self,
+        packets: &mut JitterBuffer<B>,
+        seen: &mut LazySeenTimes,
+        now: Ticks,
+        packet: &RtpPacket<'_>,
+    ) -> Result<Outcome, AllocError>
+        ensures ok { IfOk result (λ outcome. TakesDatagram self.now now (WithMedia (packet_of packet.now)) (record { packets = packets.old; seen = seen.old }) outcome true (record { packets = packets.new; seen = seen.new })) }
+        ensures err { OnErr result ((packets.new ≡ packets.old) × (seen.new ≡ seen.old)) }
+        ensures own { is_built_in_depacketizer packets.old.buffer.depacketizer ≡ false → OwnStores B.is_head B.is_tail packets.old.buffer packets.new.buffer }
+    {
         let taken = self.store_alone(packets, seen, now, &Brought::first(packet, true))?;
         Ok(taken.outcome)
     }

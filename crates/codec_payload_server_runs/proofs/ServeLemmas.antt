@@ -20,7 +20,7 @@ use Rattle.codec_payload_datagram_runs.specs.WireRuns.{Delivers, DoesStep, Recei
 use Rattle.codec_payload_datagram_runs.specs.declared.run.DatagramStep.TheVariants as wires
 use Rattle.codec_payload_datagram_runs.specs.declared.run.SentSample.{SentSample}
 use Rattle.codec_payload_forward_runs.specs.FirstHop.{original_stream}
-use Rattle.codec_payload_forward_runs.specs.ForwardRuns.{DoesForwardStep, ForwardRuns, Hops, begins_forwarding, packet_in, packet_read, written_by}
+use Rattle.codec_payload_forward_runs.specs.ForwardRuns.{Comes, DoesForwardStep, ForwardRuns, Hops, begins_forwarding, packet_in, packet_read, written_by}
 use Rattle.codec_payload_forward_runs.specs.declared.run.ForwardStep.{ForwardStep}
 use Rattle.codec_payload_forward_runs.specs.declared.run.ForwardStep.TheVariants as plain
 use Rattle.codec_payload_session_runs.specs.SessionRuns.{Call, Runs}
@@ -30,7 +30,7 @@ use Rattle.codec_payload_session_runs.specs.declared.run.StepAnswer.{StepAnswer}
 use Rattle.codec_payload_session_runs.specs.declared.run.StepAnswer.TheVariants as answers
 use Rattle.codec_payload_server_runs.proofs.SenderPackets.{AllOf, IsOf, SendsItsOwn, of_at, reads_again, sends_own, stream_of}
 use Rattle.codec_payload_server_runs.specs.ServeReleases.{AreCalls, UnwrapsSender, forwarded_steps, forwarded_steps_of, has_repeats, passed_by, says_taken}
-use Rattle.codec_payload_server_runs.specs.ServeRuns.{Arrives, Comes, ComesUnwrapped, DoesIf, DoesServeStep, IsAgain, ServeRuns, Served, begins_serving, fits_in, is_taken_as, repeated_in}
+use Rattle.codec_payload_server_runs.specs.ServeRuns.{Arrives, ComesUnwrapped, DoesIf, DoesServeStep, IsAgain, ServeRuns, Served, begins_serving, fits_in, is_taken_as, repeated_in}
 use Rattle.codec_payload_server_runs.specs.declared.run.Moment.{Moment}
 use Rattle.codec_payload_server_runs.specs.declared.run.ServeStep.{ServeStep}
 use Rattle.codec_payload_server_runs.specs.declared.run.ServeStep.TheVariants as steps

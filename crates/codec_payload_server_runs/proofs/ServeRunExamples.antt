@@ -4,7 +4,7 @@ use Rattle.std.proofs.Common.{refl, ℕ, zero, suc, ◌<◌, List, [], ◌∷◌
 use Rattle.std.specs.Prelude.{Contains}
 use Rattle.codec_payload_codec.specs.Depacketizers.{OpusDepacketizing}
 use Rattle.codec_payload_session.specs.Ports.{Session}
-use Rattle.codec_payload_session.specs.declared.formats.SessionSettings.{SessionSettings}
+use Rattle.codec_payload_session_formats.specs.declared.formats.SessionSettings.{SessionSettings}
 use Rattle.codec_payload_datagram_runs.specs.Releases.{AllComeFirst, delivered, received_steps}
 use Rattle.codec_payload_datagram_runs.specs.WireRunExample.{at}
 use Rattle.codec_payload_datagram_runs.specs.declared.run.DatagramStep.{DatagramStep}

@@ -6,7 +6,7 @@ use Rattle.codec_payload_sending.specs.Senders.{Sending}
 use Rattle.codec_payload_sending_forward.specs.Forwarding.{Forward}
 use Rattle.codec_payload_sending_history.specs.declared.original.OriginalStream.{OriginalStream}
 use Rattle.codec_payload_session.specs.Ports.{Session, new_session}
-use Rattle.codec_payload_session.specs.declared.formats.SessionSettings.{SessionSettings}
+use Rattle.codec_payload_session_formats.specs.declared.formats.SessionSettings.{SessionSettings}
 use Rattle.codec_payload_datagram_runs.specs.declared.run.SentSample.{SentSample}
 use Rattle.codec_payload_forward_runs.proofs.ForwardLemmas.{packets_forwarded, promises_forwarded, release_forwarded}
 use Rattle.codec_payload_session_runs.proofs.ReachedLemmas.{each_ended, reached}

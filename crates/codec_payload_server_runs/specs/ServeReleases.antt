@@ -1,5 +1,5 @@
--- What a run of a media server is for its session, and what it is as a run with a forwarder. The session makes a run of its own calls.
--- Each datagram that it took as one of the stream is a `Forward` step. So the theorems on both kinds of runs apply.
+-- What a run of a media server is for its session, and what it is as a run with a forwarder. The session's calls are a run of a
+-- session. Each datagram that the session took as one of the stream is a `Forward` step. So the theorems on both kinds of runs apply.
 use Rattle.std.specs.Global.{Vec}
 use Rattle.std.specs.Prelude.{◌≡◌, ℕ, nat_lt, ◌&&◌, if◌then◌else◌, Bool, true, false, List, [], ◌∷◌, ◌++◌, Option, MatchOption, drop, map, slice_get, take}
 use Rattle.codec_payload_payloader.specs.Sending.{Sample}
@@ -7,7 +7,7 @@ use Rattle.codec_payload_rtp.specs.RtpPackets.{Packet}
 use Rattle.codec_payload_sending_history.specs.declared.original.OriginalStream.{OriginalStream}
 use Rattle.codec_payload_sending_history.specs.declared.retransmission.RetransmissionStream.{RetransmissionStream}
 use Rattle.codec_payload_session.specs.Ports.{new_session}
-use Rattle.codec_payload_session.specs.declared.formats.SessionSettings.{SessionSettings}
+use Rattle.codec_payload_session_formats.specs.declared.formats.SessionSettings.{SessionSettings}
 use Rattle.codec_payload_datagram_runs.specs.Releases.{sends_after, sent_after}
 use Rattle.codec_payload_datagram_runs.specs.declared.run.SentSample.{SentSample}
 use Rattle.codec_payload_forward_runs.specs.FirstHop.{original_stream}

@@ -7,8 +7,7 @@ use Rattle.codec_payload_receiver.specs.Sessions.{Session as Receiver}
 use Rattle.codec_payload_rtp.specs.RtpPackets.{Packet}
 use Rattle.codec_payload_rtp.specs.RtpReading.{rtp_at}
 use Rattle.codec_payload_sending.specs.Senders.{Sending}
-use Rattle.codec_payload_sending_forward.specs.Forwarding.{Forward, Forwards, wrapped}
-use Rattle.codec_payload_sending_forward.specs.declared.forwarder.Forwarded.{Forwarded}
+use Rattle.codec_payload_sending_forward.specs.Forwarding.{Forward, wrapped}
 use Rattle.codec_payload_sending_history.specs.Originals.{WritesOriginal}
 use Rattle.codec_payload_sending_history.specs.declared.original.OriginalStream.{OriginalStream}
 use Rattle.codec_payload_sending_history.specs.declared.retransmission.RetransmissionStream.{RetransmissionStream}
@@ -16,7 +15,7 @@ use Rattle.codec_payload_session.specs.Accepting.{Accepts, time_for}
 use Rattle.codec_payload_session.specs.Ports.{Session}
 use Rattle.codec_payload_session.specs.declared.session.Arrival.{Arrival}
 use Rattle.codec_payload_session.specs.declared.session.Arrival.TheVariants as arrivals
-use Rattle.codec_payload_forward_runs.specs.ForwardRuns.{DoesForwardStep, ForwardStopsAt, Hops, begins_forwarding, hops_of, packet_in, written_by}
+use Rattle.codec_payload_forward_runs.specs.ForwardRuns.{Comes, DoesForwardStep, ForwardStopsAt, Hops, begins_forwarding, hops_of, packet_in}
 use Rattle.codec_payload_forward_runs.specs.declared.run.ForwardStep.{ForwardStep}
 use Rattle.codec_payload_forward_runs.specs.declared.run.ForwardStep.TheVariants as plain
 use Rattle.codec_payload_session_runs.specs.Lives.{is_same}
@@ -51,15 +50,6 @@ is_taken_as stream (Ok arrivals.Unknown) = false
 is_taken_as stream (Ok arrivals.Refused) = false
 is_taken_as stream (Ok arrivals.Unassociated) = false
 is_taken_as stream (Err fault) = false
-
--- A datagram that comes to the forwarder
-
--- the forwarder gets a packet, if the datagram is one
-abbrev pub Comes : Option Packet → (time : ℕ) → Hops → Hops → Type 0
-Comes packet time s t =
-    MatchOption packet (t ≡ s) (λ p.
-    (answer : Forwarded) × (bytes : List ℕ) × (forwarder : Forward) × Forwards time p s.forwarder answer bytes forwarder
-    × (t ≡ record s { forwarder = forwarder; written = s.written ++ written_by answer bytes; answers = s.answers ++ answer ∷ [] }))
 
 -- a retransmission is unwrapped first
 abbrev pub ComesUnwrapped : OriginalStream → (retransmission : List ℕ) → (time : ℕ) → Hops → Hops → Type 0

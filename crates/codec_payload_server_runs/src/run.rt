@@ -10,9 +10,9 @@ ghost use Rattle.codec_payload_sending.specs.Senders.{Sending};
 ghost use Rattle.codec_payload_session.specs.Accepting.{Accepts, time_for};
 ghost use Rattle.codec_payload_session.specs.declared.session.Arrival.{Arrival as TheArrival};
 ghost use Rattle.codec_payload_session_runs.specs.declared.run.StepAnswer.TheVariants.{Received};
-ghost use Rattle.codec_payload_forward_runs.specs.ForwardRuns.{hops_of, packet_in};
+ghost use Rattle.codec_payload_forward_runs.specs.ForwardRuns.{Comes, hops_of, packet_in};
 ghost use Rattle.codec_payload_server_runs.specs.ServeReleases.{KeepsPromisesServed, ReleasesServed, ServesAsSession, ServesPackets};
-ghost use Rattle.codec_payload_server_runs.specs.ServeRuns.{Arrives, Comes, ComesUnwrapped, DoesHop, DoesServeStep, IsAgain, ServeRuns, ServeStops, ServeStopsAt, StopsArriving, StopsHop, begins_serving, is_taken_as, repeated_in, served_of};
+ghost use Rattle.codec_payload_server_runs.specs.ServeRuns.{Arrives, ComesUnwrapped, DoesHop, DoesServeStep, IsAgain, ServeRuns, ServeStops, ServeStopsAt, StopsArriving, StopsHop, begins_serving, is_taken_as, repeated_in, served_of};
 ghost use Rattle.codec_payload_server_runs.specs.declared.run.ServeStep.TheVariants.{Arrive};
 
 use codec_payload_base::error::PacketError;

@@ -6,7 +6,7 @@ use Rattle.std.specs.declared.alloc.AllocError.{AllocError}
 use Rattle.std.proofs.lemmas.Bool.Decides.{nat_tests}
 use Rattle.std.proofs.lemmas.List.Quantifiers.{position-Some}
 use Rattle.codec_payload_base.specs.declared.wire.Ticks.{Ticks}
-use Rattle.codec_payload_buffer.specs.Release.{Release}
+use Rattle.codec_payload_metadata.specs.Release.{Release}
 use Rattle.codec_payload_jitter.specs.Receiving.{next}
 use Rattle.codec_payload_jitter.specs.declared.outcome.Outcome.{Outcome}
 use Rattle.codec_payload_jitter.specs.declared.waiting.WaitLimits.{WaitLimits}
@@ -23,20 +23,20 @@ use Rattle.codec_payload_session.specs.Ports.{IsPort, ReportsIf, counted, counte
 use Rattle.codec_payload_session.specs.Reports.{noted_at, noted_in, reported_by}
 use Rattle.codec_payload_session.proofs.ChangeLemmas.{length_continued, taken_continued}
 use Rattle.codec_payload_session.specs.Changes.{continues}
-use Rattle.codec_payload_session.specs.Sorting.{Sorted, sorted_at}
+use Rattle.codec_payload_session_formats.specs.Sorting.{Sorted, sorted_at}
 use Rattle.codec_payload_receiver.specs.Sessions.{Session as Receiver}
-use Rattle.codec_payload_session.specs.Late.{limit_by}
-use Rattle.codec_payload_session.specs.Names.{names_after}
-use Rattle.codec_payload_session.specs.Requests.{Asking, heard_by, number_at, wait_by}
+use Rattle.codec_payload_session_requests.specs.Late.{limit_by}
+use Rattle.codec_payload_session_formats.specs.Names.{names_after}
+use Rattle.codec_payload_session_requests.specs.Requests.{Asking, heard_by, number_at, wait_by}
 use Rattle.codec_payload_session.specs.Streams.{Drains, Follows, Plays, RequestsBy, RestsBy, Steps, StepsBy, Takes, end_of, heard_unless, is_accepted, is_no_memory, is_of, is_probation, late_followed, late_noted, left_when, received, waiting_for, waiting_if, waiting_when, waiting_where}
 use Rattle.codec_payload_session.specs.Turns.{AreQuiet, TakesTurn, ended_after, kept_after}
-use Rattle.codec_payload_session.specs.declared.formats.Format.{Format}
-use Rattle.codec_payload_session.specs.declared.formats.SessionSettings.{SessionSettings}
+use Rattle.codec_payload_session_formats.specs.declared.formats.Format.{Format}
+use Rattle.codec_payload_session_formats.specs.declared.formats.SessionSettings.{SessionSettings}
 use Rattle.codec_payload_session.specs.declared.session.Arrival.{Arrival}
 use Rattle.codec_payload_session.specs.declared.session.Arrival.TheVariants as arrivals
 use Rattle.codec_payload_session.specs.declared.session.ArrivalCounts.{ArrivalCounts}
 use Rattle.codec_payload_session.specs.Units.{Event, Step}
-use Rattle.codec_payload_session.specs.Sorting as sorted
+use Rattle.codec_payload_session_formats.specs.Sorting as sorted
 use Rattle.codec_payload_session.specs.declared.stream.Ending.{Ending}
 use Rattle.codec_payload_session.specs.declared.stream.Stage.{Stage}
 use Rattle.codec_payload_session.specs.declared.stream.Stage.TheVariants as stages

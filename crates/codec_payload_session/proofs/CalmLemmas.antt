@@ -7,8 +7,8 @@ use Rattle.std.proofs.lemmas.Bool.Decides.{nat_tests}
 use Rattle.codec_payload_feedback_requests.specs.declared.nack.PendingRequest.{PendingRequest}
 use Rattle.codec_payload_feedback_requests.specs.NackSchedule.{refreshed_with}
 use Rattle.codec_payload_receiver.specs.Sessions.{Session as Receiver}
-use Rattle.codec_payload_session.specs.Quiet.{AsksNothing, IsBefore, MayRest, is_calm, is_none}
-use Rattle.codec_payload_session.specs.Requests.{Asking, Asks, Sends, is_heard, refreshed, wants_keyframe}
+use Rattle.codec_payload_session.specs.Quiet.{AsksNothing, IsBefore}
+use Rattle.codec_payload_session_requests.specs.Requests.{MayRest, is_calm, is_none, Asking, Asks, Sends, is_heard, refreshed, wants_keyframe}
 use Rattle.codec_payload_session.proofs.DueLemmas.{nothing_due, nothing_sent, updated_again}
 
 -- ---- nothing is missing

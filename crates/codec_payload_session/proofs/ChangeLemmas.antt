@@ -3,7 +3,7 @@ use Rattle.std.proofs.Common.{◌≡◌, ◌∙◌, ◌||◌, ℕ, suc, List, []
 use Rattle.codec_payload_session.specs.Changes.{any_left_behind, continued, is_left_behind, left_behind}
 use Rattle.codec_payload_session.specs.Ports.{taken_in}
 use Rattle.codec_payload_session.specs.Streams.{left_when}
-use Rattle.codec_payload_session.specs.declared.formats.Format.{Format}
+use Rattle.codec_payload_session_formats.specs.declared.formats.Format.{Format}
 use Rattle.codec_payload_session.specs.declared.stream.Ending.TheVariants as endings
 use Rattle.codec_payload_session.specs.declared.stream.StreamState.{StreamState}
 

@@ -4,30 +4,30 @@ use Rattle.std.proofs.lemmas.Bool.Decides.{nat_tests}
 use Rattle.std.specs.declared.alloc.AllocError.{AllocError}
 use Rattle.codec_payload_base.specs.declared.wire.Ticks.{Ticks}
 use Rattle.codec_payload_codec.specs.Depacketizers.{DepacketizerState, depacketizer_state_for}
-use Rattle.codec_payload_jitter.specs.Numbers.{Numbering, numbering_within}
-use Rattle.codec_payload_jitter.specs.declared.numbers.WindowError.{WindowError}
-use Rattle.codec_payload_receiver.specs.Kinds.{is_among}
+use Rattle.codec_payload_numbers.specs.Numbers.{Numbering, numbering_within}
+use Rattle.codec_payload_numbers.specs.declared.numbers.WindowError.{WindowError}
+use Rattle.codec_payload_datagrams.specs.Kinds.{is_among}
 use Rattle.codec_payload_receiver.specs.Sessions.{Session as Receiver, red_within, retransmission_fits, session_by, session_in, session_within}
-use Rattle.codec_payload_receiver.specs.declared.datagram.RedStream.{RedStream}
+use Rattle.codec_payload_datagrams.specs.declared.kinds.RedStream.{RedStream}
 use Rattle.codec_payload_receiver.specs.declared.receiver.RedSettings.{RedSettings}
-use Rattle.codec_payload_receiver.specs.declared.receiver.Retransmission.{Retransmission}
+use Rattle.codec_payload_datagrams.specs.declared.kinds.Retransmission.{Retransmission}
 use Rattle.codec_payload_receiver.specs.declared.receiver.Settings.{Settings}
 use Rattle.codec_payload_receiver.specs.declared.receiver.SettingsError.{SettingsError}
 use Rattle.codec_payload_receiver.specs.declared.receiver.SettingsError.TheVariants as errors
 use Rattle.codec_payload_session.specs.Arrivals.{Port}
 use Rattle.codec_payload_session.specs.Associations.{AddsPair, TakesInBy}
-use Rattle.codec_payload_session.specs.Checks.{at_most_127, can_begin, fault_of, feedback_fault, first_of, format_fault, format_fits, formats_fault, is_payload_type, is_named, limit_fault, listed_fault, red_fault, red_fits, red_retransmission_fault, retransmission_fault, step_fault, streams_fault, transport_fault, type_fault, types_fault}
-use Rattle.codec_payload_session.specs.Formats.{HasSettings, backward_for, forward_for, has_type, is_video, resends, retransmission_for, retransmission_of, role_by, role_of, stream_of}
-use Rattle.codec_payload_session.specs.Sorting.{sorted_by, sorted_packet, sorted_retransmission}
-use Rattle.codec_payload_session.specs.declared.checks.SessionSettingsError.{SessionSettingsError}
-use Rattle.codec_payload_session.specs.declared.checks.SessionSettingsError.TheVariants as faults
-use Rattle.codec_payload_session.specs.declared.formats.Format.{Format}
-use Rattle.codec_payload_session.specs.declared.formats.Role.{Role}
-use Rattle.codec_payload_session.specs.declared.formats.Role.TheVariants as roles
-use Rattle.codec_payload_session.specs.declared.formats.SessionSettings.{SessionSettings}
-use Rattle.codec_payload_session.specs.declared.formats.SsrcPair.{SsrcPair}
+use Rattle.codec_payload_session_formats.specs.Checks.{at_most_127, can_begin, fault_of, feedback_fault, first_of, format_fault, format_fits, formats_fault, is_payload_type, is_named, limit_fault, listed_fault, red_fault, red_fits, red_retransmission_fault, retransmission_fault, step_fault, streams_fault, transport_fault, type_fault, types_fault}
+use Rattle.codec_payload_session_formats.specs.Formats.{HasSettings, backward_for, forward_for, has_type, is_video, resends, retransmission_for, retransmission_of, role_by, role_of, stream_of}
+use Rattle.codec_payload_session_formats.specs.Sorting.{sorted_by, sorted_packet, sorted_retransmission}
+use Rattle.codec_payload_session_formats.specs.declared.checks.SessionSettingsError.{SessionSettingsError}
+use Rattle.codec_payload_session_formats.specs.declared.checks.SessionSettingsError.TheVariants as faults
+use Rattle.codec_payload_session_formats.specs.declared.formats.Format.{Format}
+use Rattle.codec_payload_session_formats.specs.declared.formats.Role.{Role}
+use Rattle.codec_payload_session_formats.specs.declared.formats.Role.TheVariants as roles
+use Rattle.codec_payload_session_formats.specs.declared.formats.SessionSettings.{SessionSettings}
+use Rattle.codec_payload_session_formats.specs.declared.formats.SsrcPair.{SsrcPair}
 use Rattle.codec_payload_session.specs.declared.session.Arrival.{Arrival}
-use Rattle.codec_payload_session.specs.Sorting as sorted
+use Rattle.codec_payload_session_formats.specs.Sorting as sorted
 
 -- ---- no fault
 

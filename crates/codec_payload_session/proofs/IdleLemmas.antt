@@ -6,7 +6,7 @@ use Rattle.std.specs.declared.alloc.AllocError.{AllocError}
 use Rattle.std.proofs.lemmas.Bool.Decides.{nat_tests}
 use Rattle.codec_payload_base.specs.declared.error.PacketError.{PacketError}
 use Rattle.codec_payload_base.specs.declared.wire.Ticks.{Ticks}
-use Rattle.codec_payload_buffer.specs.Release.{Release}
+use Rattle.codec_payload_metadata.specs.Release.{Release}
 use Rattle.codec_payload_feedback.specs.Feedback.{Requests, deadline_of as deadline_of_requests, has_any, keyframe_is_due, numbers_due}
 use Rattle.codec_payload_feedback.specs.Transport.{Reporter, due_at}
 use Rattle.codec_payload_jitter.specs.Receiving.{Receiving, deadline_of}
@@ -23,13 +23,13 @@ use Rattle.codec_payload_session.specs.Polls.{GoesOn, Polls, PollsAfter, SendsAf
 use Rattle.codec_payload_session.specs.Ports.{Session}
 use Rattle.codec_payload_session.specs.Quiet.{IsBefore, PopsNothing}
 use Rattle.codec_payload_session.specs.Reporting.{ReportsBy, ReportsEach, ReportsIf, any_announced, deadline_if, is_report_due, is_time, report_deadline}
-use Rattle.codec_payload_session.specs.Requests.{Asking, Asks, is_heard, refreshed, requests_due}
+use Rattle.codec_payload_session_requests.specs.Requests.{Asking, Asks, is_heard, refreshed, requests_due}
 use Rattle.codec_payload_session.specs.Streams.{Drains, Follows, Plays, Pops, RequestsBy, RestsBy, Steps, StepsBy, StreamState, due_by, due_in, due_of, earlier, end_by, end_of, is_probation, later as time_after, request_deadline, step_of, step_with, work_deadline}
 use Rattle.codec_payload_session.specs.Telephone.{Queue, due_before}
-use Rattle.codec_payload_session.specs.Transports.{Sends, SendsBy, SendsFrom, transport_deadline}
+use Rattle.codec_payload_session_requests.specs.Transports.{Sends, SendsBy, SendsFrom, transport_deadline}
 use Rattle.codec_payload_session.specs.Turns.{AreQuiet, TakesTurn, event_of}
-use Rattle.codec_payload_session.specs.declared.formats.FeedbackSettings.{FeedbackSettings}
-use Rattle.codec_payload_session.specs.declared.formats.SessionSettings.{SessionSettings}
+use Rattle.codec_payload_session_formats.specs.declared.formats.FeedbackSettings.{FeedbackSettings}
+use Rattle.codec_payload_session_formats.specs.declared.formats.SessionSettings.{SessionSettings}
 use Rattle.codec_payload_session.specs.Units.{Event, Step}
 use Rattle.codec_payload_session.specs.declared.stream.Ending.{Ending}
 use Rattle.codec_payload_session.specs.declared.stream.Ending.TheVariants as endings

@@ -7,7 +7,7 @@ use Rattle.std.proofs.lemmas.List.Folds.{position_or_len-set}
 use Rattle.std.proofs.lemmas.Option.{get_or_from_slice_get, slice_get-get_or}
 use Rattle.std.specs.declared.alloc.AllocError.{AllocError}
 use Rattle.codec_payload_base.specs.declared.wire.Ticks.{Ticks}
-use Rattle.codec_payload_buffer.specs.Release.{Release}
+use Rattle.codec_payload_metadata.specs.Release.{Release}
 use Rattle.codec_payload_feedback.specs.Feedback.{deadline_of as deadline_of_requests, has_any, keyframe_is_due, numbers_due}
 use Rattle.codec_payload_feedback_requests.specs.KeyframeRequests.{deadline_of as keyframe_deadline}
 use Rattle.codec_payload_feedback_requests.specs.NackSchedule.{earliest_of}
@@ -21,14 +21,14 @@ use Rattle.codec_payload_session.specs.Polls.{Polls}
 use Rattle.codec_payload_session.specs.Ports.{IsPort, Session}
 use Rattle.codec_payload_session.specs.Quiet.{IsBefore}
 use Rattle.codec_payload_session.specs.Reporting.{report_deadline}
-use Rattle.codec_payload_session.specs.Requests.{Asking, Asks, answer_by, answer_when, asked_by, asked_when, is_heard, refreshed, wants_keyframe}
+use Rattle.codec_payload_session_requests.specs.Requests.{Asking, Asks, answer_by, answer_when, asked_by, asked_when, is_heard, refreshed, wants_keyframe}
 use Rattle.codec_payload_session.specs.Streams.{Drains, Follows, Pops, RequestsBy, RestsBy, Steps, StepsBy, StreamState, answer_for, answer_unless, asked_for, asked_unless, due_by, due_in, due_of, earlier, end_of, is_ending, is_probation, later as time_after, request_deadline, work_deadline}
 use Rattle.codec_payload_session.specs.Telephone.{Queue, due_before}
-use Rattle.codec_payload_session.specs.Transports.{transport_deadline}
+use Rattle.codec_payload_session_requests.specs.Transports.{transport_deadline}
 use Rattle.codec_payload_session.specs.Turns.{AreQuiet}
 use Rattle.codec_payload_session.specs.Units.{Event}
-use Rattle.codec_payload_session.specs.declared.formats.SessionSettings.{SessionSettings}
-use Rattle.codec_payload_session.specs.declared.keyframe.KeyframeAnswer.TheVariants as answers
+use Rattle.codec_payload_session_formats.specs.declared.formats.SessionSettings.{SessionSettings}
+use Rattle.codec_payload_session_requests.specs.declared.requests.KeyframeAnswer.TheVariants as answers
 use Rattle.codec_payload_session.specs.declared.session.ArrivalCounts.{ArrivalCounts}
 use Rattle.codec_payload_session.specs.declared.stream.Ending.{Ending}
 use Rattle.codec_payload_session.specs.declared.stream.Stage.{Stage}

@@ -8,11 +8,10 @@ mod DueLemmas
 mod GoodbyeLemmas
 mod IdleLemmas
 mod KeyframeLemmas
-mod NameLemmas
-mod NamedLemmas
 mod PacketLemmas
 mod PacketsLemmas
 mod PairLemmas
+mod PlaceLemmas
 mod PopAgainLemmas
 mod QuietLemmas
 mod RenegotiationLemmas

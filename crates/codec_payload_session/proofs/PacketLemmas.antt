@@ -10,9 +10,9 @@ use Rattle.codec_payload_rtcp.specs.RtcpWriting.{Appends, AreCompound, AreUnpadd
 use Rattle.codec_payload_rtcp.specs.SdesWriting.{description_bytes}
 use Rattle.codec_payload_rtcp.specs.declared.items.ReportBlock.{ReportBlock}
 use Rattle.codec_payload_rtcp.proofs.ExactWriting.{name_chunk_length}
-use Rattle.codec_payload_session.specs.Requests.{source_for}
+use Rattle.codec_payload_session_requests.specs.Requests.{source_for}
 use Rattle.codec_payload_session.specs.Reporting.{AppendsGroups, AreGroups, IsReport, blocks_within, bytes_of, most_blocks, name_length, report_of_group, report_packets}
-use Rattle.codec_payload_session.specs.declared.formats.FeedbackSettings.{FeedbackSettings}
+use Rattle.codec_payload_session_formats.specs.declared.formats.FeedbackSettings.{FeedbackSettings}
 
 -- ---- blocks of 24 bytes
 

@@ -7,10 +7,10 @@ use Rattle.std.specs.declared.alloc.AllocError.{AllocError}
 use Rattle.codec_payload_base.specs.Time.{Time}
 use Rattle.codec_payload_base.specs.declared.wire.Ticks.{Ticks}
 use Rattle.codec_payload_buffer.specs.Held.{Held, between, number_of}
-use Rattle.codec_payload_buffer.specs.Release.{Release}
+use Rattle.codec_payload_metadata.specs.Release.{Release}
 use Rattle.codec_payload_buffer.specs.Steps.{State, due_of, metas_of, packets_of_frame}
 use Rattle.codec_payload_buffer.specs.declared.buffer.frames.CompleteFrame.{CompleteFrame}
-use Rattle.codec_payload_buffer.specs.declared.buffer.unit.RtpMeta.{RtpMeta}
+use Rattle.codec_payload_metadata.specs.declared.meta.RtpMeta.{RtpMeta}
 use Rattle.codec_payload_buffer.proofs.FrameParts.{IsRun}
 use Rattle.codec_payload_buffer.proofs.PopLemmas.{order_due, part_due}
 use Rattle.codec_payload_jitter.specs.Receiving.{PopsWith, Receiving, settled, waiting_at}
@@ -21,7 +21,7 @@ use Rattle.codec_payload_receiver.specs.declared.pops.Popped.TheVariants as popp
 use Rattle.codec_payload_session.specs.Arrivals.{Port}
 use Rattle.codec_payload_session.specs.Polls.{GoesOn, Polls, PollsAfter, SendsAfter, TurnsOrReports, report_event, transport_event}
 use Rattle.codec_payload_session.specs.Ports.{Session}
-use Rattle.codec_payload_session.specs.Requests.{Asking}
+use Rattle.codec_payload_session_requests.specs.Requests.{Asking}
 use Rattle.codec_payload_session.specs.Streams.{Follows, Pops, RequestsBy, RestsBy, StepsBy, StreamState, step_of}
 use Rattle.codec_payload_session.specs.Turns.{TakesTurn, event_of}
 use Rattle.codec_payload_session.specs.Units.{Event, HasPackets, HasUnit, Step}

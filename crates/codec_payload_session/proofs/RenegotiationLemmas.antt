@@ -6,8 +6,8 @@ use Rattle.codec_payload_session.specs.Arrivals.{Port}
 use Rattle.codec_payload_session.specs.Ports.{IsPort, taken_in}
 use Rattle.codec_payload_session.specs.Streams.{left_when}
 use Rattle.codec_payload_session.specs.Waking.{ssrcs_of}
-use Rattle.codec_payload_session.specs.declared.formats.Format.{Format}
-use Rattle.codec_payload_session.specs.declared.formats.SessionSettings.{SessionSettings}
+use Rattle.codec_payload_session_formats.specs.declared.formats.Format.{Format}
+use Rattle.codec_payload_session_formats.specs.declared.formats.SessionSettings.{SessionSettings}
 use Rattle.codec_payload_session.specs.declared.session.ArrivalCounts.{ArrivalCounts}
 use Rattle.codec_payload_session.specs.declared.stream.Ending.TheVariants as endings
 use Rattle.codec_payload_session.specs.declared.stream.StreamState.{StreamState}

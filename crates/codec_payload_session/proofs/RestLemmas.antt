@@ -9,7 +9,7 @@ use Rattle.codec_payload_buffer.specs.Blanks.{ready_since_among, ready_since_of}
 use Rattle.codec_payload_buffer.specs.Frames.{frames}
 use Rattle.codec_payload_buffer.specs.Held.{Held, above, number_of}
 use Rattle.codec_payload_buffer.specs.Leaving.{left_of}
-use Rattle.codec_payload_buffer.specs.Release.{Release}
+use Rattle.codec_payload_metadata.specs.Release.{Release}
 use Rattle.codec_payload_buffer.specs.Steps.{Passes, PassesOver, Pops, State, due_of, none, one_more}
 use Rattle.codec_payload_buffer.specs.declared.buffer.frames.CompleteFrame.{CompleteFrame}
 use Rattle.codec_payload_buffer.specs.declared.buffer.leaving.Left.{Left}

@@ -6,14 +6,14 @@ use Rattle.std.specs.declared.alloc.AllocError.{AllocError}
 use Rattle.std.proofs.lemmas.Bool.Decides.{nat_tests}
 use Rattle.codec_payload_base.specs.declared.error.PacketError.{PacketError}
 use Rattle.codec_payload_base.specs.declared.wire.Ticks.{Ticks}
-use Rattle.codec_payload_buffer.specs.Release.{Release}
+use Rattle.codec_payload_metadata.specs.Release.{Release}
 use Rattle.codec_payload_jitter.specs.Receiving.{Receiving, deadline_of, settled, waiting_at}
 use Rattle.codec_payload_keyframes.specs.References.{no_references}
 use Rattle.codec_payload_receiver.specs.Pops.{DropsUnits, PopsGated, PopsOnce, none_dropped, one_more, without_unit}
 use Rattle.codec_payload_receiver.specs.Sessions.{Session as Receiver}
-use Rattle.codec_payload_session.specs.Late.{unboxed}
-use Rattle.codec_payload_session.specs.Quiet.{AsksNothing, IsBefore, IsKnown, IsQuiet, IsQuietUntil, MayRest, PopsNothing, Rests, RestsUntil, or_none, time_of}
-use Rattle.codec_payload_session.specs.Requests.{Asking, Asks, is_heard, requests_due}
+use Rattle.codec_payload_session_requests.specs.Late.{unboxed}
+use Rattle.codec_payload_session.specs.Quiet.{AsksNothing, IsBefore, IsKnown, IsQuiet, IsQuietUntil, PopsNothing, Rests, RestsUntil, or_none, time_of}
+use Rattle.codec_payload_session_requests.specs.Requests.{MayRest, Asking, Asks, is_heard, requests_due}
 use Rattle.codec_payload_session.specs.Streams.{Drains, Plays, Pops, RequestsBy, RestsBy, Steps, StepsBy, StreamState, earlier, end_by, is_probation, request_deadline, step_of, work_deadline}
 use Rattle.codec_payload_session.specs.declared.stream.Ending.{Ending}
 use Rattle.codec_payload_session.specs.declared.stream.Ending.TheVariants as endings
@@ -91,7 +91,7 @@ known (suc until) now work told stage last feedback r less quiet = quiet
 pub kept_work : (until : ℕ) (work : Option ℕ) (s : StreamState) → 0 < until → IsQuietUntil until work s.told s.stage s.last s.feedback s.receiver → work ≡ work_deadline s
 kept_work until work s less quiet = (known until 0 work s.told s.stage s.last s.feedback s.receiver less quiet).work_is
 
-quiet_steps : (now : Ticks) (idle : ℕ) (s : StreamState) → nat_le idle (now.0 - s.last) ≡ false → IsQuiet now.0 s.told s.stage s.last s.feedback s.receiver → Steps now idle s steps.Nothing s
+pub quiet_steps : (now : Ticks) (idle : ℕ) (s : StreamState) → nat_le idle (now.0 - s.last) ≡ false → IsQuiet now.0 s.told s.stage s.last s.feedback s.receiver → Steps now idle s steps.Nothing s
 quiet_steps now idle s awake quiet =
     let lasts : end_by now.0 idle s.last s.stage ≡ None =
     ap (λ (g : Stage). end_by now.0 idle s.last g) quiet.plays ∙ ap (λ (b : Bool). if b then Some endings.Timeout else None) awake in
@@ -101,6 +101,10 @@ quiet_steps now idle s awake quiet =
     let plays : Plays now idle s steps.Nothing s = (s, subst (λ (o : Option Ending). Drains o s s) (sym lasts) refl, pops) in
     subst (λ (g : Stage). StepsBy (is_probation g) s.told now idle s steps.Nothing s) (sym quiet.plays)
     (subst (λ (b : Bool). StepsBy false b now idle s steps.Nothing s) (sym quiet.is_told) plays)
+
+-- a stream whose quiet time is known is quiet before it
+pub quiet_before : (until now : ℕ) (work : Option ℕ) (told : Bool) (stage : Stage) (last : ℕ) (feedback : Option Asking) (r : Receiver) → now < until → IsQuietUntil until work told stage last feedback r → IsQuiet now told stage last feedback r
+quiet_before until now work told stage last feedback r less quiet = (known until now work told stage last feedback r less quiet).quiet now less
 
 -- by the fields of the stream
 pub skips : (until : ℕ) (work : Option ℕ) (now : Ticks) (idle : ℕ) (s : StreamState) → now.0 < until → now.0 - s.last < idle

@@ -18,23 +18,21 @@ use Rattle.codec_payload_session.specs.Streams.{Drains, RequestsBy, RestsBy, Ste
 use Rattle.codec_payload_jitter.specs.declared.jitter.WaitLimits.{WaitLimits}
 use Rattle.codec_payload_session.specs.Arrivals.{has_ssrc}
 use Rattle.codec_payload_session.specs.Changes.{any_left_behind, are_alike, continued, is_left_behind, is_playing, left_behind, takes_turns}
-use Rattle.codec_payload_session.specs.Formats.{is_video}
-use Rattle.codec_payload_session.specs.Late.{limit_by}
+use Rattle.codec_payload_session_formats.specs.Formats.{is_video}
+use Rattle.codec_payload_session_requests.specs.Late.{limit_by}
 use Rattle.codec_payload_session.specs.Pairs.{paired_when}
 use Rattle.codec_payload_session.specs.Reporting.{all_reported, is_chosen, reported_if, room_after}
-use Rattle.codec_payload_session.specs.declared.formats.Format.{Format}
-use Rattle.codec_payload_session.specs.declared.formats.SsrcPair.{SsrcPair}
+use Rattle.codec_payload_session_formats.specs.declared.formats.Format.{Format}
+use Rattle.codec_payload_session_formats.specs.declared.formats.SsrcPair.{SsrcPair}
 use Rattle.codec_payload_session.specs.declared.stream.Ending.TheVariants as endings
 use Rattle.codec_payload_session.specs.Turns.{AreQuiet, FirstSteps, StepsFirst}
 use Rattle.codec_payload_session.specs.Units.{Step, Turn}
-use Rattle.codec_payload_session.specs.Waking.{IsBound, IsIndexed, SaysNothing, ssrcs_of}
-use Rattle.codec_payload_session.specs.Dues.{AreDated}
-use Rattle.codec_payload_session.specs.declared.dues.Dues.{Dues}
+use Rattle.codec_payload_session.specs.Waking.{Grows, IsBound, IsIndexed, SaysNothing, ssrcs_of}
 use Rattle.codec_payload_session.specs.declared.stream.Ending.{Ending}
 use Rattle.codec_payload_session.specs.declared.stream.Stage.{Stage}
 use Rattle.codec_payload_session.specs.declared.stream.Stage.TheVariants as stages
 use Rattle.codec_payload_session.specs.declared.waking.Waking.{Waking}
-use Rattle.codec_payload_session.proofs.DeadlineLemmas.{none_dated}
+use Rattle.codec_payload_session.proofs.WakingLemmas.{says_bound}
 
 -- ---- lists
 
@@ -67,24 +65,18 @@ written_is v ts same =
     let long : length ts ≡ length v.items = sym (count_of ts) ∙ ap (λ (l : List ℕ). length l) same ∙ count_of v.items in
     with_items_is v ts (omega (arith, long, v.ok.0))
 
-pub kept : (w : Waking) (ids : List ℕ) (d : Dues) (v : Vec StreamState) (ts : List StreamState) → IsBound w ts → AreDated w d ts → ids ≡ ssrcs_of v.items → ssrcs_of ts ≡ ssrcs_of v.items
-    → IsIndexed w ids d (with_items v ts).items
-kept w ids d v ts bound dated is same = subst (λ (l : List StreamState). IsIndexed w ids d l) (sym (written_is v ts same)) (record { bound = bound; listed = is ∙ sym same; dated = dated })
+pub kept : (w : Waking) (ids : List ℕ) (v : Vec StreamState) (ts : List StreamState) → IsBound w ts → ids ≡ ssrcs_of v.items → ssrcs_of ts ≡ ssrcs_of v.items → IsIndexed w ids (with_items v ts).items
+kept w ids v ts bound is same = subst (λ (l : List StreamState). IsIndexed w ids l) (sym (written_is v ts same)) (record { bound = bound; listed = is ∙ sym same })
 
--- the same with a bound that says nothing
-pub forgotten : (w : Waking) (ids : List ℕ) (d : Dues) (v : Vec StreamState) (ts : List StreamState) → SaysNothing w → ids ≡ ssrcs_of v.items → ssrcs_of ts ≡ ssrcs_of v.items → IsIndexed w ids d (with_items v ts).items
-forgotten w ids d v ts says is same = kept w ids d v ts (says.bound ts) (none_dated w d ts says) is same
-
--- the same without a bound
-pub listed_written : (ids : List ℕ) (v : Vec StreamState) (ts : List StreamState) → ids ≡ ssrcs_of v.items → ssrcs_of ts ≡ ssrcs_of v.items → ids ≡ ssrcs_of (with_items v ts).items
-listed_written ids v ts is same = is ∙ sym same ∙ sym (ap ssrcs_of (written_is v ts same))
+-- the same with no times
+pub forgotten : (w : Waking) (ids : List ℕ) (v : Vec StreamState) (ts : List StreamState) → SaysNothing w → ids ≡ ssrcs_of v.items → ssrcs_of ts ≡ ssrcs_of v.items → IsIndexed w ids (with_items v ts).items
+forgotten w ids v ts says is same = kept w ids v ts (says_bound w ts says) is same
 
 -- one more stream
-pub grown : (w : Waking) (before ids : List ℕ) (d : Dues) (ss ts : List StreamState) (s : StreamState) → SaysNothing w → before ≡ ssrcs_of ss → ids ≡ before ++ s.ssrc ∷ [] → ts ≡ ss ++ s ∷ [] → IsIndexed w ids d ts
-grown w before ids d ss ts s says listed more longer = record {
-  bound = says.bound ts;
+pub grown : (w : Waking) (before ids : List ℕ) (ss ts : List StreamState) (s : StreamState) → Grows w ss → before ≡ ssrcs_of ss → ids ≡ before ++ s.ssrc ∷ [] → ts ≡ ss ++ s ∷ [] → IsIndexed w ids ts
+grown w before ids ss ts s grows listed more longer = record {
+  bound = subst (λ (l : List StreamState). IsBound w l) (sym longer) (grows.bound s);
   listed = more ∙ ap (λ (l : List ℕ). l ++ s.ssrc ∷ []) listed ∙ sym (of_added ss s) ∙ sym (ap ssrcs_of longer);
-  dated = none_dated w d ts says;
 }
 
 -- ---- one stream
@@ -169,7 +161,7 @@ step_ssrcs now idle ss (Some turn) ts got = first_ssrcs now idle ss turn ts got
 
 -- ---- what the list finds
 
-ssrc_at : (ss : List StreamState) (k : ℕ) (d : StreamState) → k < length ss → get_or (ssrcs_of ss) k 0 ≡ (get_or ss k d).ssrc
+pub ssrc_at : (ss : List StreamState) (k : ℕ) (d : StreamState) → k < length ss → get_or (ssrcs_of ss) k 0 ≡ (get_or ss k d).ssrc
 ssrc_at [] k d within = absurd (omega (arith, within))
 ssrc_at (s ∷ ss) zero d within = refl
 ssrc_at (s ∷ ss) (suc k) d within = ssrc_at ss k d (omega (arith, within))

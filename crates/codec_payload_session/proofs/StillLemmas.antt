@@ -1,9 +1,9 @@
 -- A report of a quiet stream leaves it quiet.
 use Rattle.std.proofs.Common.{ℕ, zero, suc, Bool, Option, Some, None}
-use Rattle.codec_payload_receiver.specs.Reports.{Reception}
+use Rattle.codec_payload_numbers.specs.Reports.{Reception}
 use Rattle.codec_payload_receiver.specs.Sessions.{Session as Receiver}
 use Rattle.codec_payload_session.specs.Quiet.{AsksNothing, IsQuietUntil}
-use Rattle.codec_payload_session.specs.Requests.{Asking}
+use Rattle.codec_payload_session_requests.specs.Requests.{Asking}
 use Rattle.codec_payload_session.specs.declared.stream.Stage.{Stage}
 
 -- no pop and no request reads what is reported

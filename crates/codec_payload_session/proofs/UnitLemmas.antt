@@ -3,7 +3,7 @@ use Rattle.std.proofs.Common.{◌≡◌, ◌∙◌, refl, ap, ℕ, List, [], ◌
 use Rattle.std.specs.Prelude.{⊤}
 use Rattle.std.specs.Global.{Vec}
 use Rattle.std.specs.declared.alloc.AllocError.{AllocError}
-use Rattle.codec_payload_buffer.specs.Release.{Release}
+use Rattle.codec_payload_metadata.specs.Release.{Release}
 use Rattle.codec_payload_buffer.specs.Steps.{popped_to}
 use Rattle.codec_payload_receiver.specs.Pops.{NamesFault, answer_of, is_too_large}
 use Rattle.codec_payload_receiver.specs.Sessions.{Session as Receiver}
@@ -12,11 +12,12 @@ use Rattle.codec_payload_receiver.specs.declared.pops.Popped.TheVariants as popp
 use Rattle.codec_payload_session.specs.Arrivals.{Port}
 use Rattle.codec_payload_session.specs.Polls.{SendsReport, SendsTransport, report_event, transport_event}
 use Rattle.codec_payload_session.specs.Ports.{Session}
-use Rattle.codec_payload_session.specs.Requests.{Asking}
+use Rattle.codec_payload_session_requests.specs.Requests.{Asking}
 use Rattle.codec_payload_session.specs.Streams.{RequestsBy, RestsBy, StreamState, is_keyframe, step_of, step_with}
 use Rattle.codec_payload_session.specs.Telephone.{Gives, GivesFrom, Queue}
 use Rattle.codec_payload_session.specs.Turns.{after_step, is_nothing, told_by}
-use Rattle.codec_payload_session.specs.Units.{event_to, popped_with, result_with, step_to}
+use Rattle.codec_payload_session.specs.Units.{event_to, step_to}
+use Rattle.codec_payload_session_requests.specs.Named.{popped_with, result_with}
 use Rattle.codec_payload_session.specs.declared.session.Event.{Event as EventWith}
 use Rattle.codec_payload_session.specs.declared.stream.Stage.{Stage}
 use Rattle.codec_payload_session.specs.declared.stream.Stage.TheVariants as stages
@@ -25,27 +26,6 @@ use Rattle.codec_payload_session.specs.declared.stream.Step.TheVariants as steps
 use Rattle.codec_payload_session.specs.declared.telephone.TelephonePacket.{TelephonePacket}
 
 -- ---- pops
-
-pub answer_with : (o : Option (Result (Popped ⊤) AllocError)) (unit : Release) → answer_of (popped_with o unit) ≡ popped_to (answer_of o) unit
-answer_with None unit = refl
-answer_with (Some (Ok (popped.Unit done))) unit = refl
-answer_with (Some (Ok (popped.TooLarge done))) unit = refl
-answer_with (Some (Ok (popped.Refused fault))) unit = refl
-answer_with (Some (Err e)) unit = refl
-
-pub names_with : (o : Option (Result (Popped ⊤) AllocError)) (unit : Release) → NamesFault o → NamesFault (popped_with o unit)
-names_with None unit names = tt
-names_with (Some (Ok (popped.Unit done))) unit names = tt
-names_with (Some (Ok (popped.TooLarge done))) unit names = tt
-names_with (Some (Ok (popped.Refused fault))) unit names = names
-names_with (Some (Err e)) unit names = tt
-
-pub large_with : (o : Option (Result (Popped ⊤) AllocError)) (unit : Release) → is_too_large (popped_with o unit) ≡ is_too_large o
-large_with None unit = refl
-large_with (Some (Ok (popped.Unit done))) unit = refl
-large_with (Some (Ok (popped.TooLarge done))) unit = refl
-large_with (Some (Ok (popped.Refused fault))) unit = refl
-large_with (Some (Err e)) unit = refl
 
 -- ---- keyframes
 

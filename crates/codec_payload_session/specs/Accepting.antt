@@ -6,7 +6,7 @@ use Rattle.codec_payload_base.specs.declared.wire.Ticks.{Ticks}
 use Rattle.codec_payload_feedback.specs.Transport.{quarters_at}
 use Rattle.codec_payload_session.specs.Associations.{Associates}
 use Rattle.codec_payload_session.specs.Ports.{Session}
-use Rattle.codec_payload_session.specs.Transports.{noted_at}
+use Rattle.codec_payload_session_requests.specs.Transports.{noted_at}
 use Rattle.codec_payload_session.specs.declared.session.Arrival.{Arrival}
 
 -- the datagram arrived on the transport at that time, in quarters of a millisecond, if the session reports what arrives there

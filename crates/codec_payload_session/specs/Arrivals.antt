@@ -13,12 +13,12 @@ use Rattle.codec_payload_receiver.specs.declared.receiver.ReceiveError.{ReceiveE
 use Rattle.codec_payload_session.specs.Reports.{noted_at}
 use Rattle.codec_payload_session.specs.Changes.{continued, continues}
 use Rattle.codec_payload_session.specs.Streams.{Begins, Takes, info_of, is_no_memory, is_of, is_probation, left_when}
-use Rattle.codec_payload_session.specs.declared.formats.Format.{Format}
-use Rattle.codec_payload_session.specs.declared.formats.SessionSettings.{SessionSettings}
+use Rattle.codec_payload_session_formats.specs.declared.formats.Format.{Format}
+use Rattle.codec_payload_session_formats.specs.declared.formats.SessionSettings.{SessionSettings}
 use Rattle.codec_payload_session.specs.declared.session.Arrival.{Arrival}
 use Rattle.codec_payload_session.specs.declared.session.Arrival.TheVariants as arrivals
-use Rattle.codec_payload_session.specs.Sorting.{Sorted, sorted_at}
-use Rattle.codec_payload_session.specs.Sorting as sorted
+use Rattle.codec_payload_session_formats.specs.Sorting.{Sorted, sorted_at}
+use Rattle.codec_payload_session_formats.specs.Sorting as sorted
 use Rattle.codec_payload_session.specs.declared.stream.Ending.{Ending}
 use Rattle.codec_payload_session.specs.declared.stream.Ending.TheVariants as endings
 use Rattle.codec_payload_session.specs.declared.stream.StreamState.{StreamState}

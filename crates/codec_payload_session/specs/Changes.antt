@@ -4,9 +4,9 @@ use Rattle.std.specs.List.{position}
 use Rattle.std.specs.Option.{is_some}
 use Rattle.codec_payload_base.specs.declared.wire.Codec.{Codec}
 use Rattle.codec_payload_base.specs.declared.wire.Codec.TheVariants as codecs
-use Rattle.codec_payload_session.specs.Formats.{is_video}
+use Rattle.codec_payload_session_formats.specs.Formats.{is_video}
 use Rattle.codec_payload_session.specs.Streams.{is_of, left_when}
-use Rattle.codec_payload_session.specs.declared.formats.Format.{Format}
+use Rattle.codec_payload_session_formats.specs.declared.formats.Format.{Format}
 use Rattle.codec_payload_session.specs.declared.stream.Ending.TheVariants as endings
 use Rattle.codec_payload_session.specs.declared.stream.Stage.{Stage}
 use Rattle.codec_payload_session.specs.declared.stream.Stage.TheVariants as stages

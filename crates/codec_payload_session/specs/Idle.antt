@@ -7,7 +7,7 @@ use Rattle.codec_payload_session.specs.Quiet.{IsBefore}
 use Rattle.codec_payload_session.specs.Reporting.{report_deadline}
 use Rattle.codec_payload_session.specs.Streams.{due_in, earlier}
 use Rattle.codec_payload_session.specs.Telephone.{due_before}
-use Rattle.codec_payload_session.specs.Transports.{transport_deadline}
+use Rattle.codec_payload_session_requests.specs.Transports.{transport_deadline}
 use Rattle.codec_payload_session.specs.Units.{Event}
 use Rattle.codec_payload_session.specs.declared.session.Event.TheVariants as events
 use Rattle.codec_payload_session.specs.declared.stream.StreamState.{StreamState}

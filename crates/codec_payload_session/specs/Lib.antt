@@ -2,14 +2,9 @@ pub mod Accepting
 pub mod Arrivals
 pub mod Associations
 pub mod Changes
-pub mod Checks
 pub mod Dues
-pub mod Formats
 pub mod Idle
 pub mod Keyframes
-pub mod Late
-pub mod Named
-pub mod Names
 pub mod Pairs
 pub mod Polls
 pub mod Ports
@@ -17,11 +12,8 @@ pub mod Quiet
 pub mod Renegotiation
 pub mod Reporting
 pub mod Reports
-pub mod Requests
-pub mod Sorting
 pub mod Streams
 pub mod Telephone
-pub mod Transports
 pub mod Turns
 pub mod Units
 pub mod Waking

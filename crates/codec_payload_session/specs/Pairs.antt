@@ -1,9 +1,9 @@
 -- Pairs of SSRCs that become known while a session runs.
 use Rattle.std.specs.Prelude.{◌≡◌, ℕ, ◌==◌, ◌&&◌, not, Bool, true, false, List, [], ◌∷◌, ◌++◌, filter, map}
 use Rattle.std.specs.Global.{Vec}
-use Rattle.codec_payload_session.specs.Formats.{retransmission_for}
+use Rattle.codec_payload_session_formats.specs.Formats.{retransmission_for}
 use Rattle.codec_payload_session.specs.Ports.{Session}
-use Rattle.codec_payload_session.specs.declared.formats.SsrcPair.{SsrcPair}
+use Rattle.codec_payload_session_formats.specs.declared.formats.SsrcPair.{SsrcPair}
 use Rattle.codec_payload_session.specs.declared.stream.StreamState.{StreamState}
 
 -- ---- lists of pairs

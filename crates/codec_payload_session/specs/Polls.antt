@@ -9,7 +9,7 @@ use Rattle.codec_payload_session.specs.Arrivals.{Port}
 use Rattle.codec_payload_session.specs.Ports.{Session}
 use Rattle.codec_payload_session.specs.Reporting.{ReportsBy}
 use Rattle.codec_payload_session.specs.Telephone.{event_of}
-use Rattle.codec_payload_session.specs.Transports.{SendsBy}
+use Rattle.codec_payload_session_requests.specs.Transports.{SendsBy}
 use Rattle.codec_payload_session.specs.Turns.{TakesTurn}
 use Rattle.codec_payload_session.specs.Units.{Event}
 use Rattle.codec_payload_session.specs.declared.session.Event.{Event as EventWith}

@@ -3,7 +3,7 @@ use Rattle.std.specs.Prelude.{◌≡◌, ◌⊎◌, ◌<◌, ℕ, zero, suc, min
 use Rattle.codec_payload_jitter.specs.Missing.{missing_numbers}
 use Rattle.codec_payload_jitter.specs.Receiving.{PopsWith, Receiving, deadline_of, settled, waiting_at}
 use Rattle.codec_payload_receiver.specs.Sessions.{Session as Receiver}
-use Rattle.codec_payload_session.specs.Requests.{Asking, Asks, is_heard, wants_keyframe}
+use Rattle.codec_payload_session_requests.specs.Requests.{Asking, Asks, is_heard, wants_keyframe, is_none, is_calm, MayRest}
 use Rattle.codec_payload_session.specs.Streams.{StreamState, earlier, request_deadline, work_deadline}
 use Rattle.codec_payload_session.specs.declared.stream.Stage.{Stage}
 use Rattle.codec_payload_session.specs.declared.stream.Stage.TheVariants as stages
@@ -44,23 +44,10 @@ IsQuietUntil (suc until) work told stage last feedback r = IsKnown (suc until) w
 
 -- ---- when it is known
 
-abbrev pub is_none : List ℕ → Bool
-is_none [] = true
-is_none (n ∷ ns) = false
-
--- nothing is missing that is requested, and no keyframe is wanted
-abbrev pub is_calm : Asking → Receiver → Bool
-is_calm a r = not (wants_keyframe a r) && is_none (missing_numbers r.packets (min a.most 1))
-
 -- the time comes before the deadline, if there is one
 abbrev pub IsBefore : Option ℕ → ℕ → Type 0
 IsBefore None now = Unit {0}
 IsBefore (Some at) now = now < at
-
--- the sender is heard at both times, or misses nothing
-abbrev pub MayRest : Option Asking → (now later last : ℕ) → Receiver → Type 0
-MayRest None now later last r = Unit {0}
-MayRest (Some a) now later last r = (is_calm a r ≡ true) ⊎ (is_heard now last a ≡ true) × (is_heard later last a ≡ true)
 
 -- if the stream had nothing at `now`, it has nothing later
 pub record Rests (now later : ℕ) (s : StreamState) : Type 0 where

@@ -10,9 +10,9 @@ use Rattle.codec_payload_rtcp.specs.RtcpWriting.{AreUnpadded}
 use Rattle.codec_payload_rtcp.specs.declared.items.ReportBlock.{ReportBlock}
 use Rattle.codec_payload_session.specs.Arrivals.{Port}
 use Rattle.codec_payload_session.specs.Reports.{block_of, reported_by}
-use Rattle.codec_payload_session.specs.Requests.{source_for}
+use Rattle.codec_payload_session_requests.specs.Requests.{source_for}
 use Rattle.codec_payload_session.specs.Streams.{later}
-use Rattle.codec_payload_session.specs.declared.formats.FeedbackSettings.{FeedbackSettings}
+use Rattle.codec_payload_session_formats.specs.declared.formats.FeedbackSettings.{FeedbackSettings}
 use Rattle.codec_payload_session.specs.declared.stream.StreamState.{StreamState}
 
 -- ---- the streams of a report

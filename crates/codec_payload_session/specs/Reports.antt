@@ -7,8 +7,8 @@ use Rattle.codec_payload_rtcp.specs.RtcpPackets.{Packet, Sender, sender_report, 
 use Rattle.codec_payload_rtcp.specs.RtcpReading.{compound_at}
 use Rattle.codec_payload_rtcp.specs.declared.items.ReportBlock.{ReportBlock}
 use Rattle.codec_payload_rtcp.specs.declared.packet.RtcpError.{RtcpError}
-use Rattle.codec_payload_receiver.specs.Reports.{report_of, reported}
-use Rattle.codec_payload_receiver.specs.declared.reports.ReceptionReport.{ReceptionReport}
+use Rattle.codec_payload_numbers.specs.Reports.{report_of, reported}
+use Rattle.codec_payload_numbers.specs.declared.statistics.ReceptionReport.{ReceptionReport}
 use Rattle.codec_payload_session.specs.declared.reports.SenderClock.{SenderClock}
 use Rattle.codec_payload_session.specs.declared.stream.StreamState.{StreamState}
 

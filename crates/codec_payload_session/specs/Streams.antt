@@ -4,7 +4,7 @@ use Rattle.std.specs.Global.{Vec}
 use Rattle.std.specs.declared.alloc.AllocError.{AllocError}
 use Rattle.codec_payload_base.specs.declared.wire.Ticks.{Ticks}
 use Rattle.codec_payload_codec.specs.Depacketizers.{DepacketizerState, configured_depacketizer, depacketizer_state_for}
-use Rattle.codec_payload_buffer.specs.Release.{Release}
+use Rattle.codec_payload_metadata.specs.Release.{Release}
 use Rattle.codec_payload_feedback_wait.specs.Waits.{Wait}
 use Rattle.codec_payload_jitter.specs.Missing.{missing_numbers}
 use Rattle.codec_payload_jitter.specs.Receiving.{deadline_of, next}
@@ -20,16 +20,16 @@ use Rattle.codec_payload_receiver.specs.declared.receiver.Counters.{Counters}
 use Rattle.codec_payload_receiver.specs.declared.receiver.ReceiveError.{ReceiveError}
 use Rattle.codec_payload_receiver.specs.declared.receiver.ReceiveError.TheVariants as errors
 use Rattle.codec_payload_receiver.specs.declared.receiver.Settings.{Settings}
-use Rattle.codec_payload_session.specs.Formats.{HasSettings, is_video, limits_for}
-use Rattle.codec_payload_session.specs.Late.{late_after, late_for, limit_by, number_at as late_number}
-use Rattle.codec_payload_session.specs.Names.{are_of_one, names_after, no_names}
-use Rattle.codec_payload_session.specs.Requests.{Asking, Asks, answer_by, answered_if, asked_by, feedback_by, heard_by, is_heard, number_at, request_counts_of, requests_due, round_trip_of, wait_by}
-use Rattle.codec_payload_session.specs.declared.formats.Format.{Format}
-use Rattle.codec_payload_session.specs.declared.formats.SessionSettings.{SessionSettings}
-use Rattle.codec_payload_session.specs.declared.keyframe.KeyframeAnswer.{KeyframeAnswer}
-use Rattle.codec_payload_session.specs.declared.keyframe.KeyframeAnswer.TheVariants as answers
-use Rattle.codec_payload_session.specs.declared.names.StreamNameIds.{StreamNameIds}
-use Rattle.codec_payload_session.specs.declared.names.StreamNames.{StreamNames}
+use Rattle.codec_payload_session_formats.specs.Formats.{HasSettings, is_video, limits_for}
+use Rattle.codec_payload_session_requests.specs.Late.{late_after, late_for, limit_by, number_at as late_number}
+use Rattle.codec_payload_session_formats.specs.Names.{are_of_one, names_after, no_names}
+use Rattle.codec_payload_session_requests.specs.Requests.{Asking, Asks, answer_by, answered_if, asked_by, feedback_by, heard_by, is_heard, number_at, request_counts_of, requests_due, round_trip_of, wait_by}
+use Rattle.codec_payload_session_formats.specs.declared.formats.Format.{Format}
+use Rattle.codec_payload_session_formats.specs.declared.formats.SessionSettings.{SessionSettings}
+use Rattle.codec_payload_session_requests.specs.declared.requests.KeyframeAnswer.{KeyframeAnswer}
+use Rattle.codec_payload_session_requests.specs.declared.requests.KeyframeAnswer.TheVariants as answers
+use Rattle.codec_payload_session_formats.specs.declared.names.StreamNameIds.{StreamNameIds}
+use Rattle.codec_payload_session_formats.specs.declared.names.StreamNames.{StreamNames}
 use Rattle.codec_payload_session.specs.declared.stream.Ending.{Ending}
 use Rattle.codec_payload_session.specs.declared.stream.Ending.TheVariants as endings
 use Rattle.codec_payload_session.specs.declared.stream.Stage.{Stage}

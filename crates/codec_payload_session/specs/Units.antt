@@ -1,7 +1,7 @@
 -- Units in memory of the caller: what a call answers without its unit, and the same answer with it.
 use Rattle.std.specs.Prelude.{◌<◌, ⊤, Option, Some, None, Result, Ok, Err, length}
 use Rattle.std.specs.declared.alloc.AllocError.{AllocError}
-use Rattle.codec_payload_buffer.specs.Release.{Release}
+use Rattle.codec_payload_metadata.specs.Release.{Release}
 use Rattle.codec_payload_receiver.specs.declared.pops.Popped.{Popped}
 use Rattle.codec_payload_receiver.specs.declared.pops.Popped.TheVariants as popped
 use Rattle.codec_payload_session.specs.declared.session.Event.{Event as EventWith}
@@ -9,6 +9,7 @@ use Rattle.codec_payload_session.specs.declared.session.Event.TheVariants as eve
 use Rattle.codec_payload_session.specs.declared.stream.Step.{Step as StepWith}
 use Rattle.codec_payload_session.specs.declared.stream.Step.TheVariants as steps
 use Rattle.codec_payload_session.specs.declared.streams.Turn.{Turn as TurnWith}
+use Rattle.codec_payload_session_requests.specs.Named.{result_with}
 
 -- an event, a step and a turn with their unit
 abbrev pub Event : Type 0
@@ -25,16 +26,6 @@ Turn = TurnWith Release
 abbrev pub unit_with : Result ⊤ AllocError → Release → Result Release AllocError
 unit_with (Ok done) unit = Ok unit
 unit_with (Err e) unit = Err e
-
-abbrev pub result_with : Result (Popped ⊤) AllocError → Release → Result (Popped Release) AllocError
-result_with (Ok (popped.Unit done)) unit = Ok (popped.Unit unit)
-result_with (Ok (popped.TooLarge done)) unit = Ok (popped.TooLarge unit)
-result_with (Ok (popped.Refused fault)) unit = Ok (popped.Refused fault)
-result_with (Err e) unit = Err e
-
-abbrev pub popped_with : Option (Result (Popped ⊤) AllocError) → Release → Option (Result (Popped Release) AllocError)
-popped_with None unit = None
-popped_with (Some result) unit = Some (result_with result unit)
 
 -- ---- steps and events, with that unit
 

@@ -1,66 +1,87 @@
--- Until when no stream has an event, except one: a poll asks only that one.
-use Rattle.std.specs.Prelude.{◌≡◌, ◌<◌, ℕ, zero, suc, ◌-◌, ◌^◌, List, [], ◌∷◌, Option, Some, None, Result}
+-- When the streams may have their next events: a poll asks only those whose time has come.
+use Rattle.std.specs.Prelude.{◌≡◌, ◌⊎◌, ◌<◌, ◌≤◌, ℕ, zero, suc, ◌^◌, ◌-◌, List, [], ◌∷◌, ◌++◌, Bool, true, false, Option, Some, None, Result, length}
+use Rattle.std.specs.List.{AllWithin}
 use Rattle.std.specs.declared.alloc.AllocError.{AllocError}
 use Rattle.codec_payload_base.specs.declared.wire.Ticks.{Ticks}
+use Rattle.codec_payload_index.specs.Times.{least_of}
 use Rattle.codec_payload_jitter.specs.declared.outcome.Outcome.{Outcome}
 use Rattle.codec_payload_receiver.specs.declared.receiver.ReceiveError.{ReceiveError}
 use Rattle.codec_payload_session.specs.Arrivals.{Arrives, Port, arrival_of}
-use Rattle.codec_payload_session.specs.Dues.{AreDated}
-use Rattle.codec_payload_session.specs.Streams.{Steps, StreamState, Takes, is_no_memory}
+use Rattle.codec_payload_session.specs.Dues.{key_of}
+use Rattle.codec_payload_session.specs.Quiet.{IsQuiet}
+use Rattle.codec_payload_session.specs.Streams.{StreamState, Takes, due_of, is_no_memory, is_probation}
 use Rattle.codec_payload_session.specs.Turns.{StepsFirst}
 use Rattle.codec_payload_session.specs.declared.session.Arrival.{Arrival}
-use Rattle.codec_payload_session.specs.declared.dues.Dues.{Dues}
-use Rattle.codec_payload_session.specs.declared.stream.Step.TheVariants as steps
 use Rattle.codec_payload_session.specs.Units.{Turn}
 use Rattle.codec_payload_session.specs.declared.waking.Waking.{Waking}
 
--- before `until` the stream has no event, and nothing changes, unless the idle timeout has passed since `since`
-pub record Sleeps (until since : ℕ) (s : StreamState) : Type 0 where
-  pub sleeps : (now : Ticks) (idle : ℕ) → now.0 < until → now.0 - since < idle → Steps now idle s steps.Nothing s
+-- the stream is in probation, or it is quiet and not idle: it has no event at this time, and nothing changes
+abbrev pub IsAsleep : ℕ → ℕ → StreamState → Type 0
+IsAsleep now idle s = (is_probation s.stage ≡ true) ⊎ IsQuiet now s.told s.stage s.last s.feedback s.receiver × (now - s.last < idle)
 
--- the same for each of the streams
-abbrev pub AllSleep : ℕ → ℕ → List StreamState → Type 0
-AllSleep until since [] = Unit {0}
-AllSleep until since (s ∷ ss) = Sleeps until since s × AllSleep until since ss
+-- the same at each time before this one, and no deadline comes earlier
+pub record WakesAt (idle at : ℕ) (s : StreamState) : Type 0 where
+  pub sleeps : (now : ℕ) → now < at → IsAsleep now idle s
+  pub due : at ≤ key_of (due_of idle s)
+
+-- each of the streams has such a time; there may be more times
+abbrev pub AllWake : ℕ → List ℕ → List StreamState → Type 0
+AllWake idle ts [] = Unit {0}
+AllWake idle [] (s ∷ ss) = ⊥
+AllWake idle (t ∷ ts) (s ∷ ss) = WakesAt idle t s × AllWake idle ts ss
 
 -- the same for each of them except the one at a place
-abbrev pub OthersSleep : ℕ → ℕ → ℕ → List StreamState → Type 0
-OthersSleep until since place [] = Unit {0}
-OthersSleep until since zero (s ∷ ss) = AllSleep until since ss
-OthersSleep until since (suc place) (s ∷ ss) = Sleeps until since s × OthersSleep until since place ss
+abbrev pub OthersWake : ℕ → ℕ → List ℕ → List StreamState → Type 0
+OthersWake idle place ts [] = Unit {0}
+OthersWake idle place [] (s ∷ ss) = ⊥
+OthersWake idle zero (t ∷ ts) (s ∷ ss) = AllWake idle ts ss
+OthersWake idle (suc place) (t ∷ ts) (s ∷ ss) = WakesAt idle t s × OthersWake idle place ts ss
 
--- the bound applies to these streams
+-- the times are those of the streams, except of one
+pub record IsTimed (w : Waking) (ss : List StreamState) : Type 0 where
+  pub within : w.fed < length ss
+  pub others : OthersWake w.idle_timeout w.fed w.times ss
+  pub until : w.until ≤ least_of w.times
+
+-- the times are those of all streams
+pub record AllTimed (idle : ℕ) (w : Waking) (ss : List StreamState) : Type 0 where
+  pub same : w.idle_timeout ≡ idle
+  pub within : w.fed < length ss
+  pub all : AllWake idle w.times ss
+
+-- if the times are known, they are those of the streams
 pub record IsBound (w : Waking) (ss : List StreamState) : Type 0 where
-  pub others : OthersSleep w.until w.since w.fed ss
+  pub timed : w.known ≡ true → IsTimed w ss
+  pub nothing : w.known ≡ false → w.until ≡ 0
+
+-- no times are known
+pub record SaysNothing (w : Waking) : Type 0 where
+  pub unknown : w.known ≡ false
+  pub nothing : w.until ≡ 0
+
+-- the times are those of the streams and of one more
+pub record Grows (w : Waking) (ss : List StreamState) : Type 0 where
+  pub bound : (s : StreamState) → IsBound w (ss ++ s ∷ [])
 
 -- the SSRC of each stream
 abbrev pub ssrcs_of : List StreamState → List ℕ
 ssrcs_of [] = []
 ssrcs_of (s ∷ ss) = s.ssrc ∷ ssrcs_of ss
 
--- the bound applies to these streams, the list has their SSRCs, and the times are theirs
-pub record IsIndexed (w : Waking) (ssrcs : List ℕ) (d : Dues) (ss : List StreamState) : Type 0 where
+-- the times are those of the streams, and the list has their SSRCs
+pub record IsIndexed (w : Waking) (ssrcs : List ℕ) (ss : List StreamState) : Type 0 where
   pub bound : IsBound w ss
   pub listed : ssrcs ≡ ssrcs_of ss
-  pub dated : AreDated w d ss
 
--- the bound says nothing: it applies to any streams
-pub record SaysNothing (w : Waking) : Type 0 where
-  pub bound : (ss : List StreamState) → IsBound w ss
-  pub nothing : w.until ≡ 0
-
--- no stream has changed except the one at a place
-abbrev pub OneChanged : ℕ → List StreamState → List StreamState → Type 0
-OneChanged place [] [] = Unit {0}
-OneChanged place [] (t ∷ ts) = ⊥
-OneChanged place (s ∷ ss) [] = ⊥
-OneChanged zero (s ∷ ss) (t ∷ ts) = ts ≡ ss
-OneChanged (suc place) (s ∷ ss) (t ∷ ts) = (t ≡ s) × OneChanged place ss ts
-
--- the time comes before the bound
+-- the time comes before that of any stream, except one
 pub record Holds (w : Waking) (now : Ticks) (idle : ℕ) : Type 0 where
   pub before : now.0 < w.until
-  pub awake : now.0 - w.since < idle
+  pub same : w.idle_timeout ≡ idle
+
+-- the first of `count` places from one on whose time has come
+abbrev pub IsNext : ℕ → Ticks → ℕ → List ℕ → Option ℕ → Type 0
+IsNext from now count ts None = AllWithin (λ (t : ℕ). now.0 < t) ts from count
+IsNext from now count ts (Some place) = (from ≤ place) × (place < count) × AllWithin (λ (t : ℕ). now.0 < t) ts from place
 
 -- the first stream with an event makes its step, and only streams change
 pub record StepsPort (now : Ticks) (idle : ℕ) (p : Port) (turn : Option Turn) (q : Port) : Type 0 where

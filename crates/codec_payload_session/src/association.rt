@@ -2,17 +2,18 @@
 
 ghost use Rattle.std.specs.Prelude.{◌≡◌, filter, Option, OnErr, OnOk};
 ghost use Rattle.codec_payload_rtp.specs.RtpValues.{packet_of};
+ghost use Rattle.codec_payload_session.specs.Arrivals.{TakesIn};
 ghost use Rattle.codec_payload_session.specs.Associations.{AddsPair, TakesInBy, has_pair, is_on_time, is_unassociated, may_be_of, owner_of, pair_at, unpaired_at, unpaired_of};
-ghost use Rattle.codec_payload_session.specs.Checks.{fault_of};
+ghost use Rattle.codec_payload_session_formats.specs.Checks.{fault_of};
 
-use crate::formats::{Role, SessionSettings, SsrcPair};
-use crate::requests::{has_requested, original_number};
 use crate::session::Arrival;
 use crate::stream::{StreamState, is_playing};
 use crate::streams::Streams;
 use codec_payload_base::wire::Ticks;
-use codec_payload_receiver::parsed::ParsedDatagram;
+use codec_payload_datagrams::parsed::ParsedDatagram;
 use codec_payload_rtp::rtp::RtpPacket;
+use codec_payload_session_formats::formats::{Role, SessionSettings, SsrcPair};
+use codec_payload_session_requests::requests::{has_requested, original_number};
 use std::alloc::AllocError;
 
 /// How far the RTP time of a retransmission may be from the clock of its stream's sender, in seconds.
@@ -46,10 +47,27 @@ pub(crate) fn take_in(
     match pair_at(settings, &streams.list, now, datagram) {
         Some(pair) => {
             add_pair(settings, streams, pair)?;
-            streams.take_in(settings, now, datagram)
+            let mut again = Ok(Arrival::Unassociated);
+            take_in_again(settings, streams, now, datagram, &mut again);
+            again
         }
         None => answer,
     }
+}
+
+/// Receives a datagram for which a pair was added. It is rare, and writes the answer to `again`, so that `take_in` is inlined once.
+#[inline(never)]
+fn take_in_again(
+    settings: &SessionSettings,
+    streams: &mut Streams,
+    now: Ticks,
+    datagram: &ParsedDatagram<'_>,
+    again: &mut Result<Arrival, AllocError>,
+)
+    requires { fault_of settings.now ≡ Option.None }
+    ensures { TakesIn settings.now now datagram.now streams.old again.new streams.new }
+{
+    *again = streams.take_in(settings, now, datagram);
 }
 
 /// Adds a pair to the settings, and gives the streams of its SSRC their retransmissions. If memory runs out, nothing has changed.

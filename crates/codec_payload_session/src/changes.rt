@@ -3,11 +3,11 @@
 ghost use Rattle.std.specs.Prelude.{◌≡◌, true};
 ghost use Rattle.std.specs.List.{position};
 ghost use Rattle.codec_payload_session.specs.Changes.{are_alike, continued, continues, plays, takes_turns};
-ghost use Rattle.codec_payload_session.specs.Formats.{is_video};
+ghost use Rattle.codec_payload_session_formats.specs.Formats.{is_video};
 
-use crate::formats::{Format, is_video};
 use crate::stream::StreamState;
 use codec_payload_base::wire::Codec;
+use codec_payload_session_formats::formats::{Format, is_video};
 
 /// Returns whether this codec is sent in turn with audio that goes on.
 #[inline(always)]

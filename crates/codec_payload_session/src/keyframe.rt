@@ -4,22 +4,11 @@ ghost use Rattle.std.specs.Prelude.{◌≡◌, ◌<◌, Option, length};
 ghost use Rattle.std.specs.List.{position};
 ghost use Rattle.codec_payload_session.specs.Arrivals.{has_ssrc};
 ghost use Rattle.codec_payload_session.specs.Keyframes.{KeyframeLeaves, answer_among, asked_among, asks_keyframe};
-ghost use Rattle.codec_payload_session.specs.declared.keyframe.KeyframeAnswer.TheVariants as answers;
+ghost use Rattle.codec_payload_session_requests.specs.declared.requests.KeyframeAnswer.TheVariants as answers;
 
 use crate::session::Session;
 use crate::streams::Streams;
-use crate::waking::Waking;
-
-/// What a session does with a request for a keyframe.
-#[derive(Clone, Copy, Debug, PartialEq, Eq)]
-pub enum KeyframeAnswer {
-    /// The stream requests a keyframe as soon as its limit allows.
-    Requested,
-    /// No stream has this SSRC, or the first one that has it is about to end.
-    NoStream,
-    /// The sender answers no requests for keyframes: the format has no `pli`, or the settings of the session have no `feedback`.
-    NotNegotiated,
-}
+pub use codec_payload_session_requests::requests::KeyframeAnswer;
 
 impl Session {
     /// Asks the sender of the stream with this SSRC for a keyframe, by a PLI (RFC 4585, section 6.3.1): for another receiver that
@@ -37,8 +26,8 @@ impl Session {
     /// dropped. The cost is a search for the SSRC. Allocates nothing.
     ///
     /// [`Event::Feedback`]: crate::session::Event::Feedback
-    /// [`FeedbackSettings::keyframe_interval`]: crate::formats::FeedbackSettings::keyframe_interval
-    /// [`FeedbackSettings::silence`]: crate::formats::FeedbackSettings::silence
+    /// [`FeedbackSettings::keyframe_interval`]: codec_payload_session_formats::formats::FeedbackSettings::keyframe_interval
+    /// [`FeedbackSettings::silence`]: codec_payload_session_formats::formats::FeedbackSettings::silence
     pub fn request_keyframe(&mut self, ssrc: u32) -> KeyframeAnswer
         ensures answer { result ≡ answer_among (position (has_ssrc ssrc) self.old.port.streams) self.old.port.streams }
         // Nothing else changes.
@@ -68,7 +57,7 @@ impl Streams {
         ensures answer { result ≡ answer_among (Option.Some place) self.old.streams }
         ensures after { self.new ≡ asked_among (Option.Some place) self.old }
     {
-        self.waking = Waking::unknown();
+        self.waking.forget();
         self.list[place].request_keyframe()
     }
 }

@@ -2,26 +2,21 @@
 //! returns the units of all streams, requests what they miss, and reports on them.
 #![tactic(auto)]
 
+pub use codec_payload_session_formats::{checks, formats, names};
+
 mod association;
 mod changes;
-pub mod checks;
 mod compound;
 mod dues;
 mod events;
-pub mod formats;
 mod former;
 mod goodbyes;
 pub mod keyframe;
-mod late;
-mod named;
-pub mod names;
 mod pairs;
 mod renegotiation;
 mod reporter;
 pub mod reports;
-mod requests;
 pub mod session;
-mod sort;
 pub mod stream;
 mod streams;
 mod telephone;

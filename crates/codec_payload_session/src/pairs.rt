@@ -1,11 +1,11 @@
 //! Pairs of SSRCs that become known while a session runs.
 
 ghost use Rattle.std.specs.Prelude.{◌≡◌, IfOk};
-ghost use Rattle.codec_payload_session.specs.Formats.{stream_of};
+ghost use Rattle.codec_payload_session_formats.specs.Formats.{stream_of};
 ghost use Rattle.codec_payload_session.specs.Pairs.{is_apart, paired_where, with_pair, without_pair};
 
-use crate::formats::SsrcPair;
 use crate::stream::StreamState;
+use codec_payload_session_formats::formats::SsrcPair;
 use std::alloc::{AllocError, Global};
 
 /// Returns the pairs and one more, which replaces those that have one of its SSRCs in the same place.

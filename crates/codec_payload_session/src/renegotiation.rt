@@ -3,10 +3,10 @@
 ghost use Rattle.std.specs.Prelude.{◌≡◌, IsFalse, IsTrue};
 ghost use Rattle.codec_payload_session.specs.Renegotiation.{IsAmong, IsGone, StayOrEnd};
 
-use crate::formats::Format;
 use crate::stream::{Ending, StreamState};
 use codec_payload_base::wire::CodecSpec;
 use codec_payload_receiver::receiver::RedSettings;
+use codec_payload_session_formats::formats::Format;
 
 /// Returns whether both formats are the same, with all of their fields.
 fn is_same(one: &Format, other: &Format) -> bool

@@ -6,19 +6,17 @@ ghost use Rattle.codec_payload_feedback.specs.Feedback.{AppendsAll, cname_by, cn
 ghost use Rattle.codec_payload_rtcp.specs.RtcpWriting.{Appends};
 ghost use Rattle.codec_payload_session.specs.Reporting.{AppendsGroups, IsReport, ReportsBy, ReportsEach, TakeTurns, all_reported, any_announced, blocks_of, blocks_within, bytes_if, bytes_of, due_after, due_streams, has_announced, is_first_chosen, is_first_due, is_first_reported, is_new_round, is_report_due, is_time, most_blocks, name_length, planned, report_deadline, report_of_group, reported_if, room_after};
 ghost use Rattle.codec_payload_session.specs.Reports.{block_of};
-ghost use Rattle.codec_payload_session.specs.Requests.{source_for};
+ghost use Rattle.codec_payload_session_requests.specs.Requests.{source_for};
 ghost use Rattle.codec_payload_session.specs.Streams.{later};
 
-use crate::formats::{FeedbackSettings, SessionSettings};
 use crate::reports::block_about;
-use crate::requests::LONGEST_NAME;
 use crate::stream::StreamState;
 use crate::streams::Streams;
-use crate::waking::Waking;
 use codec_payload_base::wire::{Frequency, Ticks};
 use codec_payload_rtcp::items::ReportBlock;
 use codec_payload_rtcp::packet::ReceiverReport;
 use codec_payload_rtcp::writing::{write_cname, written_packets_are_read};
+use codec_payload_session_formats::formats::{FeedbackSettings, LONGEST_NAME, SessionSettings};
 use std::alloc::{AllocError, Global};
 
 /// The bytes of the 31 blocks that a receiver report holds at most.
@@ -94,7 +92,7 @@ impl Streams {
         let mut blocks = Vec::new(self.alloc);
         append_blocks(&self.list, round, now, tick_rate, &mut blocks)?;
         let packet = write_report(self.alloc, feedback, &blocks)?;
-        self.waking = Waking::unknown();
+        self.waking.forget();
         start_fractions(&mut self.list, round);
         Ok(packet)
     }

@@ -4,9 +4,11 @@
 ghost use Rattle.std.specs.Prelude.{◌≡◌, ◌∷◌, ◌<◌, IfSome, []};
 ghost use Rattle.codec_payload_rtcp.specs.RtcpValues.{packet_of, sender_of};
 ghost use Rattle.codec_payload_session.specs.Reports.{block_about, block_of, clock_of, clocked_if, clocked_where, delay_since, last_report, noted_where, ntp_at, ntp_ticks, reported_by};
+ghost use Rattle.codec_payload_session.specs.Waking.{ssrcs_of};
 
 use crate::stream::StreamState;
 use codec_payload_base::wire::{Frequency, Ticks};
+use codec_payload_index::ssrcs::Ssrcs;
 use codec_payload_receiver::reports::ReceptionReport;
 use codec_payload_rtcp::items::ReportBlock;
 use codec_payload_rtcp::packet::{RtcpPacket, SenderReport};
@@ -69,20 +71,30 @@ impl StreamState {
 }
 
 /// Notes the packet if it is a sender report: it states the clock of the streams of its SSRC. It arrived at `now`.
-pub(crate) fn note_packet(streams: &mut [StreamState], now: Ticks, packet: &RtcpPacket<'_>)
+#[inline(always)]
+pub(crate) fn note_packet(
+    streams: &mut [StreamState],
+    ssrcs: &Ssrcs,
+    now: Ticks,
+    packet: &RtcpPacket<'_>,
+)
+    requires { ssrcs.now ≡ ssrcs_of streams.old }
     ensures { streams.new ≡ noted_where now (packet_of packet.now ∷ []) streams.old }
 {
     if let RtcpPacket::SenderReport(report) = packet {
-        set_clocks(streams, report.ssrc, clock_of(now, report));
+        set_clocks(streams, ssrcs, report.ssrc, clock_of(now, report));
     }
 }
 
-/// Replaces the clock of all streams of this SSRC.
-fn set_clocks(streams: &mut [StreamState], ssrc: u32, clock: SenderClock)
+/// Replaces the clock of all streams of this SSRC, by the list of the SSRCs of the streams.
+fn set_clocks(streams: &mut [StreamState], ssrcs: &Ssrcs, ssrc: u32, clock: SenderClock)
+    requires { ssrcs.now ≡ ssrcs_of streams.old }
     ensures { streams.new ≡ clocked_where ssrc clock streams.old }
 {
-    for place in 0..streams.len() {
+    let mut from = 0;
+    while let Some(place) = ssrcs.find(ssrc, from) {
         streams[place].set_clock_if(ssrc, clock);
+        from = place + 1;
     }
 }
 

@@ -6,7 +6,7 @@ ghost use Rattle.std.specs.Option.{option_map};
 ghost use Rattle.codec_payload_session.specs.Arrivals.{Port};
 ghost use Rattle.codec_payload_session.specs.Accepting.{Accepts, time_for};
 ghost use Rattle.codec_payload_session.specs.Associations.{Associates};
-ghost use Rattle.codec_payload_session.specs.Checks.{checked, fault_of};
+ghost use Rattle.codec_payload_session_formats.specs.Checks.{checked, fault_of};
 ghost use Rattle.codec_payload_session.specs.Idle.{IsIdle, held_in, next_of};
 ghost use Rattle.codec_payload_session.specs.Ports.{IsSum, MatchInfo, ReportsIf, counted, counted_if, ends_all, ends_of, former_among, made_of, names_among, no_counts, receiver_among, restarts_transport, taken_in, told_counts, waits_of};
 ghost use Rattle.codec_payload_session.specs.Reports.{block_among, clock_among};
@@ -17,28 +17,30 @@ ghost use Rattle.codec_payload_session.specs.Pairs.{Pairs, with_pair, without_pa
 ghost use Rattle.codec_payload_session.specs.Units.{HasUnit, event_to};
 
 use crate::association::{add_pair, take_in};
-use crate::checks::SessionSettingsError;
 use crate::events::{report_event, transport_event, with_unit};
-use crate::formats::{Format, SessionSettings, SsrcPair};
 use crate::former::former;
-use crate::names::StreamNames;
 use crate::pairs::remove_pair;
 use crate::reporter::report_deadline;
 use crate::reports::SenderClock;
 use crate::stream::{Ending, StreamInfo, earlier};
 use crate::streams::{Streams, Who};
 use crate::telephone::TelephoneQueue;
-use crate::transport::{note, reporter_for, restart, time_of, transport_deadline};
 use codec_payload_base::error::PacketError;
 use codec_payload_base::wire::Ticks;
 use codec_payload_buffer::buffer::PoppedUnit;
+use codec_payload_datagrams::parsed::ParsedDatagram;
 use codec_payload_feedback::transport::TransportReporter;
 use codec_payload_feedback_congestion::arrivals::quarters;
 use codec_payload_jitter::jitter::WaitLimits;
 use codec_payload_jitter::outcome::Outcome;
-use codec_payload_receiver::parsed::ParsedDatagram;
 use codec_payload_receiver::receiver::{ReceiveError, Receiver};
 use codec_payload_rtcp::items::ReportBlock;
+use codec_payload_session_formats::checks::SessionSettingsError;
+use codec_payload_session_formats::formats::{Format, SessionSettings, SsrcPair};
+use codec_payload_session_formats::names::StreamNames;
+use codec_payload_session_requests::transports::{
+    note, reporter_for, restart, time_of, transport_deadline,
+};
 use std::alloc::{AllocError, Global};
 use std::marker::Model;
 use std::mem;
@@ -152,7 +154,7 @@ pub enum Event<U = PoppedUnit> {
     /// streams with one SSRC only about the later one. A report holds at most 31 blocks, so more streams take several reports
     /// in the packet. Without a block there is one empty report. The name of the session follows, if it has one.
     ///
-    /// [`FeedbackSettings::report_interval`]: crate::formats::FeedbackSettings::report_interval
+    /// [`FeedbackSettings::report_interval`]: codec_payload_session_formats::formats::FeedbackSettings::report_interval
     Report {
         packet: Result<Vec<u8>, AllocError>,
     },
@@ -498,7 +500,7 @@ impl Session {
     /// The first setting that no session can meet with these formats ([`SessionSettings::check`]): the session is unchanged.
     ///
     /// [`Ending::Changed`]: crate::stream::Ending::Changed
-    /// [`SessionSettings::check`]: crate::formats::SessionSettings::check
+    /// [`SessionSettings::check`]: codec_payload_session_formats::formats::SessionSettings::check
     pub fn set_formats(
         &mut self,
         now: Ticks,
@@ -522,7 +524,7 @@ impl Session {
     /// packets replace `max_wait`.
     ///
     /// [`Receiver::set_wait_limits`]: codec_payload_receiver::receiver::Receiver::set_wait_limits
-    /// [`FeedbackSettings::longest_wait`]: crate::formats::FeedbackSettings::longest_wait
+    /// [`FeedbackSettings::longest_wait`]: codec_payload_session_formats::formats::FeedbackSettings::longest_wait
     pub fn set_wait_limits(&mut self, ssrc: u32, payload_type: u8, wait_limits: WaitLimits)
         ensures { self.new ≡ waits_of ssrc payload_type wait_limits self.old }
     {
@@ -553,7 +555,7 @@ impl Session {
     /// would have. For those who look at jitter and losses beside the reports that the session sends
     /// ([`FeedbackSettings::report_interval`]). The round trip is in [`StreamInfo::round_trip`]. Allocates nothing.
     ///
-    /// [`FeedbackSettings::report_interval`]: crate::formats::FeedbackSettings::report_interval
+    /// [`FeedbackSettings::report_interval`]: codec_payload_session_formats::formats::FeedbackSettings::report_interval
     /// [`StreamInfo::round_trip`]: crate::stream::StreamInfo::round_trip
     pub fn peek_report(&self, now: Ticks, ssrc: u32, payload_type: u8) -> Option<ReportBlock>
         ensures value { result ≡ block_among (position (is_of ssrc payload_type) self.now.port.streams) self.now.settings.tick_rate now.0 self.now.port.streams }
@@ -589,7 +591,7 @@ impl Session {
     /// sending names once they know that they arrived, so a stream in another format under the same SSRC can lack them: ask for the
     /// names of the earlier stream, which is kept for `bye_wait` of the settings at least. Allocates nothing.
     ///
-    /// [`SessionSettings::name_ids`]: crate::formats::SessionSettings::name_ids
+    /// [`SessionSettings::name_ids`]: codec_payload_session_formats::formats::SessionSettings::name_ids
     pub fn names_of(&self, ssrc: u32, payload_type: u8) -> Option<StreamNames>
         ensures { result ≡ names_among (position (is_of ssrc payload_type) self.now.port.streams) self.now.port.streams }
     {

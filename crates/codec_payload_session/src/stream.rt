@@ -3,39 +3,40 @@
 ghost use Rattle.std.specs.Prelude.{◌≡◌, IfOk, IfSome, true};
 ghost use Rattle.std.specs.Option.{option_map};
 ghost use Rattle.codec_payload_session.specs.Changes.{is_left_behind, is_playing, left_behind, plays};
-ghost use Rattle.codec_payload_session.specs.Checks.{can_begin};
+ghost use Rattle.codec_payload_session_formats.specs.Checks.{can_begin};
 ghost use Rattle.codec_payload_session.specs.Dues.{key_of};
 ghost use Rattle.codec_payload_session.specs.Pairs.{paired_if};
 ghost use Rattle.codec_payload_session.specs.Quiet.{RestsUntil, or_none, time_of};
-ghost use Rattle.codec_payload_session.specs.Requests.{wait_by};
+ghost use Rattle.codec_payload_session_requests.specs.Requests.{IsCalm, wait_by};
 ghost use Rattle.codec_payload_session.specs.Streams.{Begins, Drains, IsInfo, Pops, RequestsBy, RestsBy, Steps, Takes, answer_for, asked_for, due_of, earlier, end_of, heard, heard_unless, is_accepted, is_ending, is_former, is_keyframe, is_no_memory, is_of, is_probation, late_followed, left, left_when, received, step_of, step_with, waiting_for, waiting_if, work_deadline};
 ghost use Rattle.codec_payload_session.specs.Turns.{is_nothing};
 ghost use Rattle.codec_payload_session.specs.Units.{step_to};
-ghost use Rattle.codec_payload_session.specs.Waking.{Sleeps, or_max};
+ghost use Rattle.codec_payload_session.specs.Waking.{WakesAt, or_max};
 ghost use Rattle.codec_payload_session.specs.declared.stream.Step.TheVariants as steps;
 
 use crate::changes::{are_alike, takes_turns};
-use crate::formats::{Format, SessionSettings, SsrcPair, retransmission_for};
-use crate::keyframe::KeyframeAnswer;
-use crate::late::{follow, late_for, limit_by};
-use crate::named::NamedReceiver;
-use crate::names::{StreamNameIds, StreamNames};
 use crate::reports::SenderClock;
-use crate::requests::{
-    Feedback, answer_if, ask_keyframe, hear, request_counts, requests_due, rest_time, round_trip,
-    wait_by,
-};
 use codec_payload_base::error::PacketError;
 use codec_payload_base::wire::Ticks;
 use codec_payload_buffer::buffer::PoppedUnit;
 use codec_payload_codec::codec::CodecDepacketizer;
+use codec_payload_datagrams::parsed::ParsedDatagram;
 use codec_payload_feedback::requests::RequestCounts;
 use codec_payload_feedback_wait::adaptive_wait::AdaptiveWait;
 use codec_payload_jitter::jitter::WaitLimits;
 use codec_payload_jitter::outcome::Outcome;
-use codec_payload_receiver::parsed::ParsedDatagram;
 use codec_payload_receiver::pops::Popped;
 use codec_payload_receiver::receiver::{Counters, ReceiveError, Receiver};
+use codec_payload_session_formats::formats::{
+    Format, SessionSettings, SsrcPair, retransmission_for,
+};
+use codec_payload_session_formats::names::{StreamNameIds, StreamNames};
+use codec_payload_session_requests::late::{follow, late_for, limit_by};
+use codec_payload_session_requests::named::NamedReceiver;
+use codec_payload_session_requests::requests::{
+    Feedback, KeyframeAnswer, answer_if, ask_keyframe, hear, request_counts, requests_due,
+    rest_time, round_trip, wait_by,
+};
 use std::alloc::{AllocError, Global};
 use std::marker::Model;
 
@@ -130,7 +131,7 @@ impl Model for StreamState {
     ghost Value = { StreamState };
 
     ghost use Rattle.codec_payload_session.specs.Quiet.{IsQuietUntil, time_of};
-    ghost use Rattle.codec_payload_session.specs.Late.{unboxed};
+    ghost use Rattle.codec_payload_session_requests.specs.Late.{unboxed};
 
     ghost view = { λ s. record {
       ssrc = s.ssrc;
@@ -489,10 +490,10 @@ impl StreamState {
                 step_with(popped)
             }
             None => {
-                let step = self.rest(now);
+                let (step, calm) = self.rest(now);
                 if is_nothing(&step) && self.receiver.inner().held() == held {
                     let work = self.find_work();
-                    let until = self.quiet_time(now, work);
+                    let until = self.quiet_time(now, work, calm);
                     let kept = or_none(work);
                     self.quiet_until = until;
                     self.work = kept;
@@ -503,44 +504,48 @@ impl StreamState {
     }
 
     /// Returns until when the stream has no event, if it had none at `now`, and none of its packets left. 0: it is not known.
-    /// `work` is its `work_deadline`.
+    /// `work` is its `work_deadline`, and `calm` says that nothing is to be requested.
     #[inline(always)]
-    fn quiet_time(&self, now: Ticks, work: Option<u64>) -> u64
-        requires { work ≡ work_deadline self.now }
+    fn quiet_time(&self, now: Ticks, work: Option<u64>, calm: bool) -> u64
+        requires work { work ≡ work_deadline self.now }
+        requires calm { calm ≡ true → IsCalm self.now.feedback self.now.receiver }
         ensures { RestsUntil result now.0 self.now }
     {
         if !self.told || !is_playing(self.stage) {
             return 0;
         }
-        let rest = rest_time(&self.feedback, now, self.last, self.receiver.inner());
+        let rest = rest_time(&self.feedback, now, self.last, self.receiver.inner(), calm);
         match work {
             Some(at) => rest.min(at),
             None => rest,
         }
     }
 
-    /// Returns the step of a stream without a unit: its end, or what it requests.
+    /// Returns the step of a stream without a unit: its end, or what it requests. With `true` beside it nothing is to be requested.
     #[inline(always)]
-    fn rest(&mut self, now: Ticks) -> Step<()>
-        ensures { RestsBy self.old.stage now.0 self.old result self.new }
+    fn rest(&mut self, now: Ticks) -> (Step<()>, bool)
+        ensures rests { RestsBy self.old.stage now.0 self.old result.0 self.new }
+        ensures calm { result.1 ≡ true → IsCalm self.new.feedback self.new.receiver }
     {
         match self.stage {
             Stage::Playing => self.request(now),
-            Stage::Draining(why) => Step::Ended(why),
-            _ => Step::Nothing,
+            Stage::Draining(why) => (Step::Ended(why), false),
+            _ => (Step::Nothing, false),
         }
     }
 
-    /// Returns the requests that are due, by what the receiver misses now.
+    /// Returns the requests that are due, by what the receiver misses now. With `true` beside them nothing is to be requested.
     #[inline(always)]
-    fn request(&mut self, now: Ticks) -> Step<()>
-        ensures { RequestsBy self.old.feedback now.0 self.old result self.new }
+    fn request(&mut self, now: Ticks) -> (Step<()>, bool)
+        ensures requests { RequestsBy self.old.feedback now.0 self.old result.0 self.new }
+        ensures calm { result.1 ≡ true → IsCalm self.new.feedback self.new.receiver }
     {
         self.quiet_until = 0;
         if let Some(feedback) = &mut self.feedback {
-            return step_of(feedback.take_due(now, self.last, &mut self.receiver));
+            let (due, calm) = feedback.take_due(now, self.last, &mut self.receiver);
+            return (step_of(due), calm);
         }
-        Step::Nothing
+        (Step::Nothing, true)
     }
 
     /// Returns when the stream may have a unit, or a request is due.
@@ -612,15 +617,20 @@ impl StreamState {
         }
     }
 
-    /// Returns until when the stream has no event, and when its latest datagram arrived. A stream in probation has none.
-    pub(crate) fn asleep(&self) -> (u64, u64)
-        ensures { Sleeps result.0 result.1 self.now }
+    /// Returns a time before which the stream has neither an event nor a deadline. 0: none is known.
+    pub(crate) fn wakes_at(&self, idle_timeout: u64) -> u64
+        ensures { WakesAt idle_timeout result self.now }
     {
         if is_probation(self.stage) {
-            (u64::MAX, u64::MAX)
-        } else {
-            (self.quiet_until, self.last)
+            return u64::MAX;
         }
+        if self.quiet_until == 0 || idle_timeout == 0 {
+            return 0;
+        }
+        let idle_at = self.last.saturating_add(idle_timeout);
+        self.quiet_until
+            .min(idle_at)
+            .min(self.due_key(idle_timeout))
     }
 
     /// Describes the stream, as a caller sees it.

@@ -6,14 +6,14 @@ ghost use Rattle.std.specs.Option.{is_some};
 ghost use Rattle.codec_payload_base.specs.Answers.{Finds};
 ghost use Rattle.codec_payload_rtcp.specs.RtcpReading.{compound_at, packets_left};
 ghost use Rattle.codec_payload_session.specs.Reports.{noted_where};
-ghost use Rattle.codec_payload_session.specs.Sorting.{sorted_packet, sorted_rtcp};
+ghost use Rattle.codec_payload_session_formats.specs.Sorting.{sorted_packet, sorted_rtcp};
 ghost use Rattle.codec_payload_session.specs.Streams.{due_in, is_of, waiting_if, waiting_where};
 ghost use Rattle.codec_payload_session.specs.Turns.{StepsFirst, TakesTurn, after_step, told_by};
 ghost use Rattle.codec_payload_session.specs.Arrivals.{BeginsIf, BeginsOrFeeds, Feeds, TakesIn, TakesInAs, added, arrival_of, has_place, has_ssrc, includes, leaving, left_if, left_where, on_probation, removed, say_goodbye, TakesMedia};
 ghost use Rattle.codec_payload_session.specs.Ports.{ReportsIf, ReportsOn, everyone, no_port};
 ghost use Rattle.codec_payload_session.specs.declared.stream.Ending.TheVariants as endings;
 ghost use Rattle.codec_payload_session.specs.Pairs.{paired_where, with_pair};
-ghost use Rattle.codec_payload_session.specs.Checks.{can_begin, fault_of};
+ghost use Rattle.codec_payload_session_formats.specs.Checks.{can_begin, fault_of};
 ghost use Rattle.codec_payload_session.specs.Changes.{any_left_behind, continued, continues};
 ghost use Rattle.codec_payload_session.specs.Renegotiation.{StayOrEnd};
 ghost use Rattle.codec_payload_session.specs.Units.{event_to, turn_to};
@@ -22,24 +22,24 @@ ghost use Rattle.codec_payload_session.specs.Waking.{FeedsOne, StepsPort};
 
 use crate::changes::{continues, leave_behind};
 use crate::compound::take_packets;
-use crate::dues::Dues;
-use crate::formats::{Format, SessionSettings, SsrcPair};
+use crate::dues::due_in;
 use crate::pairs::{pair, with_pair};
 use crate::renegotiation::leave_formats;
 use crate::session::{Arrival, Event};
-use crate::sort::{SortedPacket, sort};
 use crate::stream::{Ending, Step, StreamInfo, StreamState, is_no_memory, is_nothing};
-use crate::waking::{Waking, step_excepted};
+use crate::waking::{Waking, step_due, step_excepted};
 use codec_payload_base::wire::{Frequency, Ticks};
 use codec_payload_buffer::buffer::PoppedUnit;
+use codec_payload_datagrams::parsed::ParsedDatagram;
 use codec_payload_index::ssrcs::Ssrcs;
 use codec_payload_jitter::jitter::WaitLimits;
 use codec_payload_jitter::outcome::Outcome;
-use codec_payload_receiver::parsed::ParsedDatagram;
 use codec_payload_receiver::receiver::ReceiveError;
 use codec_payload_rtcp::compound::{CompoundRule, Packets, read_compound};
 use codec_payload_rtcp::items::ReportBlock;
 use codec_payload_rtp::rtp::PacketHeader;
+use codec_payload_session_formats::formats::{Format, SessionSettings, SsrcPair};
+use codec_payload_session_formats::sort::{SortedPacket, sort};
 use std::alloc::{AllocError, Global};
 use std::marker::Model;
 
@@ -56,10 +56,8 @@ pub(crate) struct Streams {
     pub(crate) ended: u64,
     /// What was known of the stream that was removed last.
     pub(crate) last: Option<StreamInfo>,
-    /// Until when the streams have no event.
+    /// When they may have their next events.
     pub(crate) waking: Waking,
-    /// When each of them may have an event.
-    pub(crate) dues: Dues,
 }
 
 /// The step of the stream at a place.
@@ -86,7 +84,7 @@ impl Model for Streams {
 
     ghost view = { λ s. record { streams = s.list.items; finished = s.finished; ended = s.ended; last = s.last } };
 
-    ghost invariant = { λ s. IsIndexed s.waking s.ssrcs s.dues s.list.items };
+    ghost invariant = { λ s. IsIndexed s.waking s.ssrcs s.list.items };
 }
 
 impl Streams {
@@ -101,12 +99,12 @@ impl Streams {
             finished: false,
             ended: 0,
             last: None,
-            waking: Waking::unknown(),
-            dues: Dues::unknown(alloc),
+            waking: Waking::unknown(alloc),
         }
     }
 
     /// Receives a datagram.
+    #[inline(always)]
     pub(crate) fn take_in(
         &mut self,
         settings: &SessionSettings,
@@ -144,8 +142,9 @@ impl Streams {
     fn take_packets(&mut self, now: Ticks, at: u64, packets: Packets<'_>)
         ensures { self.new ≡ record self.old { streams = left_where (λ ssrc. say_goodbye ssrc (packets_left packets.entry)) endings.Bye at (noted_where now (packets_left packets.entry) self.old.streams) } }
     {
-        self.waking = Waking::unknown();
-        take_packets(&mut self.list, now, at, packets);
+        if take_packets(&mut self.list, &self.ssrcs, now, at, packets) {
+            self.waking.forget();
+        }
     }
 
     /// Receives an RTP packet with this header.
@@ -209,7 +208,7 @@ impl Streams {
             return;
         }
         if continues(&self.list, ssrc, format) {
-            self.waking = Waking::unknown();
+            self.waking.forget();
             leave_behind(&mut self.list, now, wait, (ssrc, *format));
         }
     }
@@ -283,8 +282,7 @@ impl Streams {
         requires { place < length self.old.streams }
         ensures { Feeds probation place now datagram.now self.old result self.new }
     {
-        self.dues.except(self.waking, place, &self.list);
-        self.waking = self.waking.except(place, &self.list);
+        self.waking.except(place, &self.list);
         let stream = &mut self.list[place];
         feed_one(stream, probation, now, datagram)
     }
@@ -330,7 +328,7 @@ impl Streams {
         let place = leaving(max_streams, &self.list);
         self.list.reserve(1)?;
         self.ssrcs.push(stream.ssrc)?;
-        self.waking = Waking::unknown();
+        self.waking.grow(&self.list);
         self.list.push(stream).unwrap();
         if let Some(place) = place {
             self.remove(place);
@@ -343,7 +341,7 @@ impl Streams {
         requires { place < length self.old.streams }
         ensures { self.new ≡ removed place self.old }
     {
-        self.waking = Waking::unknown();
+        self.waking.forget();
         self.ssrcs.remove(place);
         let gone = self.list.remove(place);
         self.ended = self.ended.wrapping_add(gone.taken);
@@ -361,10 +359,11 @@ impl Streams {
         ensures { TakesTurn now idle_timeout self.old (event_to result unit.new) self.new }
     {
         if self.waking.holds(now, idle_timeout) {
-            self.turn_one(now, idle_timeout, unit)
-        } else {
-            self.turn_all(now, idle_timeout, unit)
+            return self.turn_one(now, idle_timeout, unit);
         }
+        let mut event = None;
+        self.turn_all_to(now, idle_timeout, unit, &mut event);
+        event
     }
 
     /// Does the same, mostly while the bound holds: then `step` needs no list of all streams, and its answer no memory.
@@ -383,8 +382,8 @@ impl Streams {
         }
     }
 
-    /// Does the same, and asks all streams.
-    #[inline(never)]
+    /// Does the same by the times of the streams.
+    #[inline(always)]
     fn turn_all(
         &mut self,
         now: Ticks,
@@ -399,30 +398,41 @@ impl Streams {
         }
     }
 
+    /// Writes the same event to `event`, out of the way of `turn_one`, whose event then needs no memory.
+    #[inline(never)]
+    fn turn_all_to(
+        &mut self,
+        now: Ticks,
+        idle_timeout: u64,
+        unit: &mut PoppedUnit,
+        event: &mut Option<Event<()>>,
+    )
+        ensures { TakesTurn now idle_timeout self.old (event_to event.new unit.new) self.new }
+    {
+        *event = self.turn_all(now, idle_timeout, unit);
+    }
+
     /// Returns the first step with an event. As long as the bound holds, only the stream that is excepted is asked.
     #[inline(always)]
     fn step(&mut self, now: Ticks, idle_timeout: u64, unit: &mut PoppedUnit) -> Option<Turn<()>>
         ensures { StepsPort now idle_timeout self.old (turn_to result unit.new) self.new }
     {
         if self.waking.holds(now, idle_timeout) {
-            step_excepted(&mut self.list, self.waking, now, idle_timeout, unit)
+            step_excepted(&mut self.list, &self.waking, now, idle_timeout, unit)
         } else {
             self.step_all(now, idle_timeout, unit)
         }
     }
 
-    /// Asks all streams in order, until one has an event. Without an event it is known until when they have none.
+    /// Asks the streams whose time has come, in order, until one has an event. If memory runs out for the times, it asks all.
     fn step_all(&mut self, now: Ticks, idle_timeout: u64, unit: &mut PoppedUnit) -> Option<Turn<()>>
         ensures { StepsPort now idle_timeout self.old (turn_to result unit.new) self.new }
     {
-        self.waking = Waking::unknown();
-        let turn = step_first(&mut self.list, now, idle_timeout, unit);
-        if turn.is_none() {
-            self.waking = Waking::of(&self.list);
-            self.dues
-                .find(self.alloc, self.waking, &self.list, idle_timeout);
+        if self.waking.find(self.alloc, &self.list, idle_timeout) {
+            step_due(&mut self.waking, &mut self.list, now, idle_timeout, unit)
+        } else {
+            step_first(&mut self.list, now, idle_timeout, unit)
         }
-        turn
     }
 
     /// Returns the event of the stream at a place. A stream that ended is removed.
@@ -479,14 +489,14 @@ impl Streams {
     pub(crate) fn due_in(&self, idle_timeout: u64) -> Option<u64>
         ensures { result ≡ due_in idle_timeout self.now.streams }
     {
-        self.dues.due_in(self.waking, &self.list, idle_timeout)
+        due_in(&self.waking, &self.list, idle_timeout)
     }
 
     /// Ends these streams at that time.
     pub(crate) fn leave(&mut self, who: Who, why: Ending, at: u64)
         ensures { self.new ≡ record self.old { streams = left_where (includes who) why at self.old.streams } }
     {
-        self.waking = Waking::unknown();
+        self.waking.forget();
         leave(&mut self.list, who, why, at);
     }
 
@@ -494,7 +504,7 @@ impl Streams {
     pub(crate) fn leave_formats(&mut self, formats: &[Format], at: u64)
         ensures { (streams : List StreamState) × StayOrEnd formats.now at self.old.streams streams × (self.new ≡ record self.old { streams = streams }) }
     {
-        self.waking = Waking::unknown();
+        self.waking.forget();
         leave_formats(&mut self.list, formats, at);
     }
 
@@ -502,7 +512,7 @@ impl Streams {
     pub(crate) fn set_wait_limits(&mut self, ssrc: u32, payload_type: u8, wait_limits: WaitLimits)
         ensures { self.new ≡ record self.old { streams = waiting_where ssrc payload_type wait_limits self.old.streams } }
     {
-        self.waking = Waking::unknown();
+        self.waking.forget();
         set_wait_limits(&mut self.list, ssrc, payload_type, wait_limits);
     }
 
@@ -528,7 +538,7 @@ impl Streams {
         ensures reports { ReportsOn place tick_rate now.0 self.old result self.new }
         ensures fits { IfSome result (λ block. block.cumulative_lost < 16777216) }
     {
-        self.waking = Waking::unknown();
+        self.waking.forget();
         self.list[place].report(now, tick_rate)
     }
 
@@ -547,7 +557,7 @@ impl Streams {
     pub(crate) fn pair(&mut self, ssrc: u32, pairs: &[SsrcPair])
         ensures { self.new ≡ record self.old { streams = paired_where ssrc pairs.now self.old.streams } }
     {
-        self.waking = Waking::unknown();
+        self.waking.forget();
         pair(&mut self.list, ssrc, pairs);
     }
 
@@ -556,7 +566,7 @@ impl Streams {
         ensures { self.new ≡ record self.old { streams = left_where everyone endings.Told at self.old.streams; finished = true } }
     {
         self.finished = true;
-        self.waking = Waking::unknown();
+        self.waking.forget();
         leave(&mut self.list, Who::All, Ending::Told, at);
     }
 }
@@ -637,7 +647,7 @@ fn step_first(
 }
 
 /// Ends these streams at that time.
-pub(crate) fn leave(streams: &mut [StreamState], who: Who, why: Ending, at: u64)
+fn leave(streams: &mut [StreamState], who: Who, why: Ending, at: u64)
     ensures { streams.new ≡ left_where (includes who) why at streams.old }
 {
     for place in 0..streams.len() {
@@ -646,7 +656,7 @@ pub(crate) fn leave(streams: &mut [StreamState], who: Who, why: Ending, at: u64)
 }
 
 /// Ends the stream at that time, if it is one of `who`.
-fn leave_if(stream: &mut StreamState, who: Who, why: Ending, at: u64)
+pub(crate) fn leave_if(stream: &mut StreamState, who: Who, why: Ending, at: u64)
     ensures { stream.new ≡ left_if (includes who) why at stream.old }
 {
     let leaves = includes(who, stream.ssrc);

@@ -5,11 +5,11 @@ ghost use Rattle.std.specs.Option.{option_map};
 ghost use Rattle.codec_payload_rtp.specs.RtpValues.{packet_of};
 ghost use Rattle.codec_payload_session.specs.Telephone.{Gives, IsCopy, MayLackMemory, Notes, empty_queue, event_of, is_quiet, is_without_media, settled, telephone_at, telephone_if};
 
-use crate::formats::SessionSettings;
 use crate::session::{Arrival, Event};
+use codec_payload_datagrams::parsed::ParsedDatagram;
 use codec_payload_jitter::outcome::Outcome;
-use codec_payload_receiver::parsed::ParsedDatagram;
 use codec_payload_rtp::rtp::RtpPacket;
+use codec_payload_session_formats::formats::SessionSettings;
 use std::alloc::{AllocError, Global};
 use std::marker::Model;
 

@@ -1,112 +1,200 @@
-//! Until when the streams of a session have no event, so that a poll asks only the stream that got a datagram.
+//! When the streams of a session may have their next events, so that a poll asks only the streams whose time has come.
 
-ghost use Rattle.std.specs.Prelude.{◌≡◌, ◌-◌, ◌<◌, ◌≤◌, true};
-ghost use Rattle.codec_payload_session.specs.Streams.{due_in, earlier};
+ghost use Rattle.std.specs.Prelude.{◌≡◌, ◌<◌, ◌≤◌, IfOk, Option, length, false, true};
 ghost use Rattle.codec_payload_session.specs.Turns.{StepsFirst};
 ghost use Rattle.codec_payload_session.specs.Units.{turn_to};
-ghost use Rattle.codec_payload_session.specs.Waking.{AllSleep, Holds, IsBound, OneChanged, SaysNothing, or_max};
+ghost use Rattle.codec_payload_session.specs.Waking.{AllTimed, AllWake, Grows, Holds, IsBound, IsNext, IsTimed, SaysNothing};
 
-use crate::stream::{StreamState, earlier, is_nothing};
+use crate::stream::{StreamState, is_nothing};
 use crate::streams::Turn;
 use codec_payload_base::wire::Ticks;
 use codec_payload_buffer::buffer::PoppedUnit;
+use codec_payload_index::times::Times;
+use std::alloc::{AllocError, Global};
 
-/// A bound for all streams of a list except one: before `until` they have no event, unless the idle timeout has passed since
-/// `since`. It may be earlier than their events, and never later.
-#[derive(Clone, Copy, Debug)]
+/// A time for each stream of a list, before which it has neither an event nor a deadline; except for the stream that got the
+/// latest datagram. A time may be earlier than the event, and never later.
+#[derive(Debug, Drop)]
 pub(crate) struct Waking {
+    /// The time of each stream. What stands at the place of the one that is excepted, and behind the last stream, counts for no
+    /// stream.
+    pub(crate) times: Times,
+    /// At most the least of these times.
     pub(crate) until: u64,
-    pub(crate) since: u64,
-    /// The place of the stream that is excepted: it got the latest datagram.
+    /// The place of the stream that is excepted.
     pub(crate) fed: usize,
+    /// The idle timeout with which the times were found.
+    pub(crate) idle_timeout: u64,
+    /// Whether the times are those of the streams. If not, `until` is 0.
+    pub(crate) known: bool,
 }
 
 impl Waking {
-    /// Returns a bound that says nothing.
-    #[inline(always)]
-    pub(crate) fn unknown() -> Waking
+    /// Returns times that are not known. Does not allocate.
+    pub(crate) fn unknown(alloc: Global) -> Waking
         ensures { SaysNothing result }
     {
         Waking {
+            times: Times::new(alloc),
             until: 0,
-            since: 0,
             fed: 0,
+            idle_timeout: 0,
+            known: false,
         }
     }
 
-    /// Returns the bound of these streams.
-    pub(crate) fn of(streams: &[StreamState]) -> Waking
-        ensures { IsBound result streams.now }
-    {
-        let mut until = u64::MAX;
-        let mut since = u64::MAX;
-        for stream in streams {
-            let asleep = stream.asleep();
-            until = until.min(asleep.0);
-            since = since.min(asleep.1);
-        }
-        Waking {
-            until,
-            since,
-            fed: 0,
-        }
-    }
-
-    /// Returns whether the bound says that the streams have no event at this time.
+    /// Forgets the times, since streams have changed. Their memory stays.
     #[inline(always)]
-    pub(crate) fn holds(self, now: Ticks, idle_timeout: u64) -> bool
-        ensures { result ≡ true → Holds self now idle_timeout }
+    pub(crate) fn forget(&mut self)
+        ensures { SaysNothing self.new }
     {
-        now.0 < self.until && now.0.saturating_sub(self.since) < idle_timeout
+        self.until = 0;
+        self.known = false;
     }
 
-    /// Returns the bound of all streams except the one at this place.
+    /// Returns whether no stream has an event at this time, except the one that is excepted.
     #[inline(always)]
-    pub(crate) fn except(self, place: usize, streams: &[StreamState]) -> Waking
-        requires { IsBound self streams.now }
-        ensures bound { IsBound result streams.now }
-        ensures place { result.fed ≡ place }
-        ensures until { result.until ≤ self.until }
+    pub(crate) fn holds(&self, now: Ticks, idle_timeout: u64) -> bool
+        ensures { result ≡ true → Holds self.now now idle_timeout }
     {
-        if self.fed == place {
-            return self;
-        }
-        let (until, since) = self.with_fed(streams);
-        Waking {
-            until,
-            since,
-            fed: place,
+        now.0 < self.until && self.idle_timeout == idle_timeout
+    }
+
+    /// Excepts the stream at this place, which gets a datagram.
+    #[inline(always)]
+    pub(crate) fn except(&mut self, place: usize, streams: &[StreamState])
+        requires bound { IsBound self.old streams.now }
+        requires within { place < length streams.now }
+        ensures bound { IsBound self.new streams.now }
+        ensures place { self.new.known ≡ true → self.new.fed ≡ place }
+    {
+        if self.known && self.fed != place {
+            self.note(streams);
+            self.leave_out(place, streams);
         }
     }
 
-    /// Returns the bound of all streams.
-    fn with_fed(self, streams: &[StreamState]) -> (u64, u64)
-        requires { IsBound self streams.now }
-        ensures sleep { AllSleep result.0 result.1 streams.now }
-        ensures until { result.0 ≤ self.until }
+    /// Notes the time of the stream that was excepted.
+    fn note(&mut self, streams: &[StreamState])
+        requires { IsTimed self.old streams.now }
+        ensures { AllTimed self.old.idle_timeout self.new streams.now }
     {
-        if self.fed >= streams.len() {
-            return (self.until, self.since);
-        }
-        let asleep = streams[self.fed].asleep();
-        (self.until.min(asleep.0), self.since.min(asleep.1))
+        let time = streams[self.fed].wakes_at(self.idle_timeout);
+        self.times.set(self.fed, time);
     }
+
+    /// Excepts the stream at this place.
+    fn leave_out(&mut self, place: usize, streams: &[StreamState])
+        requires timed { AllTimed self.old.idle_timeout self.old streams.now }
+        requires within { place < length streams.now }
+        ensures bound { IsBound self.new streams.now }
+        ensures place { self.new.fed ≡ place }
+    {
+        self.times.set(place, u64::MAX);
+        self.until = self.times.least();
+        self.fed = place;
+        self.known = true;
+    }
+
+    /// Keeps the times, and has the next poll ask by them.
+    fn ask_again(&mut self, streams: &[StreamState])
+        requires { AllTimed self.old.idle_timeout self.old streams.now }
+        ensures { IsBound self.new streams.now }
+    {
+        self.until = 0;
+        self.known = true;
+    }
+
+    /// Has the next poll ask the stream that is added behind the others, if the times have room for it.
+    pub(crate) fn grow(&mut self, streams: &[StreamState])
+        requires { IsBound self.old streams.now }
+        ensures { Grows self.new streams.now }
+    {
+        if self.known && streams.len() < self.times.len() {
+            self.times.set(streams.len(), 0);
+            self.until = 0;
+        } else {
+            self.forget();
+        }
+    }
+
+    /// Notes or finds the time of each stream. Without a stream, or if memory runs out, it returns `false`.
+    pub(crate) fn find(&mut self, alloc: Global, streams: &[StreamState], idle_timeout: u64) -> bool
+        requires { IsBound self.old streams.now }
+        ensures found { result ≡ true → AllTimed idle_timeout self.new streams.now }
+        ensures lost { result ≡ false → SaysNothing self.new }
+    {
+        if self.known && self.idle_timeout == idle_timeout {
+            self.note(streams);
+            return true;
+        }
+        self.forget();
+        if streams.len() == 0 {
+            return false;
+        }
+        self.fed = 0;
+        self.idle_timeout = idle_timeout;
+        find_times(&mut self.times, alloc, streams, idle_timeout)
+    }
+}
+
+/// Replaces the times by those of these streams. If memory runs out, it returns `false`.
+fn find_times(times: &mut Times, alloc: Global, streams: &[StreamState], idle_timeout: u64) -> bool
+    ensures { result ≡ true → AllWake idle_timeout times.new streams.now }
+{
+    if times.len() < streams.len() {
+        return match times_of(alloc, streams, idle_timeout) {
+            Ok(found) => {
+                *times = found;
+                true
+            }
+            Err(_) => false,
+        };
+    }
+    for place in streams.len()..times.len() {
+        times.set(place, u64::MAX);
+    }
+    set_times(times, streams, idle_timeout);
+    true
+}
+
+/// Replaces the first times by those of these streams.
+fn set_times(times: &mut Times, streams: &[StreamState], idle_timeout: u64)
+    requires { length streams.now ≤ length times.old }
+    ensures { AllWake idle_timeout times.new streams.now }
+{
+    for place in 0..streams.len() {
+        times.set(place, streams[place].wakes_at(idle_timeout));
+    }
+}
+
+/// Returns the times of these streams, with room for about as many more.
+fn times_of(alloc: Global, streams: &[StreamState], idle_timeout: u64) -> Result<Times, AllocError>
+    ensures { IfOk result (λ times. AllWake idle_timeout times streams.now) }
+{
+    let mut times = Vec::new(alloc);
+    for stream in streams {
+        times.push(stream.wakes_at(idle_timeout))?;
+    }
+    for _ in 1..streams.len() {
+        times.push(u64::MAX)?;
+    }
+    Times::of(alloc, times)
 }
 
 /// Asks the stream that is excepted for an event. The others have none.
 #[inline(always)]
 pub(crate) fn step_excepted(
     streams: &mut [StreamState],
-    waking: Waking,
+    waking: &Waking,
     now: Ticks,
     idle_timeout: u64,
     unit: &mut PoppedUnit,
 ) -> Option<Turn<()>>
-    requires bound { IsBound waking streams.old }
-    requires holds { Holds waking now idle_timeout }
+    requires bound { IsBound waking.now streams.old }
+    requires holds { Holds waking.now now idle_timeout }
     ensures first { StepsFirst now idle_timeout streams.old (turn_to result unit.new) streams.new }
-    ensures bound { IsBound waking streams.new }
-    ensures others { OneChanged waking.fed streams.old streams.new }
+    ensures bound { IsBound waking.now streams.new }
 {
     let place = waking.fed;
     if place >= streams.len() {
@@ -120,36 +208,59 @@ pub(crate) fn step_excepted(
     }
 }
 
-/// Returns when a stream may have an event without a datagram.
-pub(crate) fn due_in(streams: &[StreamState], idle_timeout: u64) -> Option<u64>
-    ensures { result ≡ due_in idle_timeout streams.now }
+/// Asks the streams whose time has come, in order, until one has an event.
+pub(crate) fn step_due(
+    waking: &mut Waking,
+    streams: &mut [StreamState],
+    now: Ticks,
+    idle_timeout: u64,
+    unit: &mut PoppedUnit,
+) -> Option<Turn<()>>
+    requires { AllTimed idle_timeout waking.old streams.old }
+    ensures first { StepsFirst now idle_timeout streams.old (turn_to result unit.new) streams.new }
+    ensures bound { IsBound waking.new streams.new }
 {
-    let due = least_due(streams, idle_timeout);
-    if due < u64::MAX {
-        Some(due)
+    let turn = ask_due(&mut waking.times, streams, now, idle_timeout, unit);
+    if turn.is_none() {
+        waking.leave_out(waking.fed, streams);
     } else {
-        last_due(streams, idle_timeout)
+        waking.ask_again(streams);
     }
+    turn
 }
 
-/// Returns the same time, and 2^64 - 1 without one.
-fn least_due(streams: &[StreamState], idle_timeout: u64) -> u64
-    ensures { result ≡ or_max (due_in idle_timeout streams.now) }
+/// Does the same with the times alone, and notes the time of each stream that it asked.
+fn ask_due(
+    times: &mut Times,
+    streams: &mut [StreamState],
+    now: Ticks,
+    idle_timeout: u64,
+    unit: &mut PoppedUnit,
+) -> Option<Turn<()>>
+    requires { AllWake idle_timeout times.old streams.old }
+    ensures first { StepsFirst now idle_timeout streams.old (turn_to result unit.new) streams.new }
+    ensures timed { AllWake idle_timeout times.new streams.new }
 {
-    let mut due = u64::MAX;
-    for stream in streams {
-        due = due.min(stream.due_or_max(idle_timeout));
+    let mut from = 0;
+    while let Some(place) = next_due(&*times, from, now, streams.len()) {
+        let step = streams[place].step(now, idle_timeout, unit);
+        times.set(place, streams[place].wakes_at(idle_timeout));
+        if !is_nothing(&step) {
+            return Some(Turn { place, step });
+        }
+        from = place + 1;
     }
-    due
+    None
 }
 
-/// Returns the same time. It may be 2^64 - 1 itself.
-fn last_due(streams: &[StreamState], idle_timeout: u64) -> Option<u64>
-    ensures { result ≡ due_in idle_timeout streams.now }
+/// Returns the first of `count` places from `from` on whose time has come.
+#[inline(always)]
+fn next_due(times: &Times, from: usize, now: Ticks, count: usize) -> Option<usize>
+    requires { count ≤ length times.now }
+    ensures { IsNext from now count times.now result }
 {
-    let mut due = None;
-    for stream in streams {
-        due = earlier(due, stream.due(idle_timeout));
-    }
-    due
+    let Some(place) = times.first_from(from, now.0) else {
+        return None;
+    };
+    if place < count { Some(place) } else { None }
 }

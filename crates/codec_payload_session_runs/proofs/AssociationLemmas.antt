@@ -10,18 +10,18 @@ use Rattle.codec_payload_rtcp.specs.RtcpReading.{compound_at}
 use Rattle.codec_payload_rtp.specs.RtpPackets.{Packet, is_rtcp}
 use Rattle.codec_payload_rtp.specs.RtpReading.{rtp_at}
 use Rattle.codec_payload_rtp.specs.declared.rtp.RtpError.{RtpError}
-use Rattle.codec_payload_receiver.specs.Kinds.{is_among}
-use Rattle.codec_payload_receiver.specs.declared.receiver.Retransmission.{Retransmission}
+use Rattle.codec_payload_datagrams.specs.Kinds.{is_among}
+use Rattle.codec_payload_datagrams.specs.declared.kinds.Retransmission.{Retransmission}
 use Rattle.codec_payload_session.specs.Arrivals.{Arrives, Feeds, FeedsIf, Port, TakesIn, TakesInAs, arrival_of}
 use Rattle.codec_payload_session.specs.Associations.{owner_of, pair_at, pair_of, pair_with, unpaired_at, unpaired_by, unpaired_rtp}
-use Rattle.codec_payload_session.specs.Formats.{has_type, resends, retransmission_for, retransmission_of, role_by, stream_of}
+use Rattle.codec_payload_session_formats.specs.Formats.{has_type, resends, retransmission_for, retransmission_of, role_by, stream_of}
 use Rattle.codec_payload_session.specs.Pairs.{is_apart, paired_if, paired_when, paired_where, with_pair, without_pair}
-use Rattle.codec_payload_session.specs.Requests.{original_number}
-use Rattle.codec_payload_session.specs.Sorting.{sorted_at, sorted_by, sorted_retransmission, sorted_rtcp, sorted_rtp}
+use Rattle.codec_payload_session_requests.specs.Requests.{original_number}
+use Rattle.codec_payload_session_formats.specs.Sorting.{sorted_at, sorted_by, sorted_retransmission, sorted_rtcp, sorted_rtp}
 use Rattle.codec_payload_session.specs.Streams.{Takes, is_no_memory, is_of}
-use Rattle.codec_payload_session.specs.declared.formats.Format.{Format}
-use Rattle.codec_payload_session.specs.declared.formats.SessionSettings.{SessionSettings}
-use Rattle.codec_payload_session.specs.declared.formats.SsrcPair.{SsrcPair}
+use Rattle.codec_payload_session_formats.specs.declared.formats.Format.{Format}
+use Rattle.codec_payload_session_formats.specs.declared.formats.SessionSettings.{SessionSettings}
+use Rattle.codec_payload_session_formats.specs.declared.formats.SsrcPair.{SsrcPair}
 use Rattle.codec_payload_session.specs.declared.session.Arrival.{Arrival}
 use Rattle.codec_payload_session.specs.declared.session.Arrival.TheVariants as arrivals
 use Rattle.codec_payload_session.specs.declared.stream.StreamState.{StreamState}

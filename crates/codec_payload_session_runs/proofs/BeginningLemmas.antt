@@ -25,14 +25,14 @@ use Rattle.codec_payload_session.specs.Ports.{ReportsIf as ReportsPlace}
 use Rattle.codec_payload_session.specs.Reporting.{all_reported, is_chosen, reported_if, room_after}
 use Rattle.codec_payload_session.specs.Reports.{noted, noted_at, reported_by}
 use Rattle.codec_payload_session.specs.Reports.{noted_in as clocks_in}
-use Rattle.codec_payload_session.specs.Sorting.{Sorted, sorted_at}
-use Rattle.codec_payload_session.specs.Sorting as sorted
+use Rattle.codec_payload_session_formats.specs.Sorting.{Sorted, sorted_at}
+use Rattle.codec_payload_session_formats.specs.Sorting as sorted
 use Rattle.codec_payload_session.specs.Streams.{Takes, accepted_after, heard_unless, is_accepted, is_no_memory, is_of, is_probation, late_followed, left_when, received, stage_after, waiting_if, asked_for, asked_unless, is_ending}
 use Rattle.codec_payload_session.specs.Turns.{AreQuiet, TakesTurn, kept_after}
 use Rattle.codec_payload_session.specs.Units.{Event}
-use Rattle.codec_payload_session.specs.declared.formats.Format.{Format}
-use Rattle.codec_payload_session.specs.declared.formats.SessionSettings.{SessionSettings}
-use Rattle.codec_payload_session.specs.declared.formats.SsrcPair.{SsrcPair}
+use Rattle.codec_payload_session_formats.specs.declared.formats.Format.{Format}
+use Rattle.codec_payload_session_formats.specs.declared.formats.SessionSettings.{SessionSettings}
+use Rattle.codec_payload_session_formats.specs.declared.formats.SsrcPair.{SsrcPair}
 use Rattle.codec_payload_session.specs.declared.session.Arrival.{Arrival}
 use Rattle.codec_payload_session.specs.declared.session.Arrival.TheVariants as arrivals
 use Rattle.codec_payload_session.specs.declared.session.Event.TheVariants as events

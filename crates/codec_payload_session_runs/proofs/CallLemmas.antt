@@ -15,23 +15,23 @@ use Rattle.codec_payload_rtcp.specs.declared.packet.RtcpError.{RtcpError}
 use Rattle.codec_payload_rtp.specs.RtpPackets.{Packet as RtpPacket, is_rtcp}
 use Rattle.codec_payload_rtp.specs.RtpReading.{rtp_at}
 use Rattle.codec_payload_rtp.specs.declared.rtp.RtpError.{RtpError}
-use Rattle.codec_payload_receiver.specs.Kinds.{is_among}
+use Rattle.codec_payload_datagrams.specs.Kinds.{is_among}
 use Rattle.codec_payload_receiver.specs.declared.receiver.ReceiveError.{ReceiveError}
 use Rattle.codec_payload_session.specs.Keyframes.{asked_among, asked_with}
-use Rattle.codec_payload_session.specs.declared.keyframe.KeyframeAnswer.{KeyframeAnswer}
+use Rattle.codec_payload_session_requests.specs.declared.requests.KeyframeAnswer.{KeyframeAnswer}
 use Rattle.codec_payload_session.specs.Arrivals.{Arrives, BeginsIf, BeginsOrFeeds, BeginsWith, Feeds, FeedsIf, Port, TakesIn, TakesInAs, TakesMedia, arrival_of, goodbye_at, has_place, has_ssrc, left_if, on_probation, without}
 use Rattle.codec_payload_session.specs.Changes.{continued, continues, is_left_behind, left_behind}
 use Rattle.codec_payload_session.specs.Pairs.{paired_if, paired_when}
 use Rattle.codec_payload_session.specs.Ports.{ReportsIf}
 use Rattle.codec_payload_session.specs.Reporting.{all_reported, is_chosen, reported_if, room_after}
 use Rattle.codec_payload_session.specs.Reports.{noted, noted_at, noted_in, reported_by}
-use Rattle.codec_payload_session.specs.Formats.{has_type, resends, retransmission_for, role_by, stream_of}
-use Rattle.codec_payload_session.specs.Sorting.{sorted_by, sorted_retransmission, sorted_rtcp, sorted_rtp}
+use Rattle.codec_payload_session_formats.specs.Formats.{has_type, resends, retransmission_for, role_by, stream_of}
+use Rattle.codec_payload_session_formats.specs.Sorting.{sorted_by, sorted_retransmission, sorted_rtcp, sorted_rtp}
 use Rattle.codec_payload_session.specs.Streams.{Begins, is_no_memory, is_of, is_probation, waiting_if, waiting_when, asked_for, asked_unless, is_ending}
 use Rattle.codec_payload_session.specs.Turns.{AreQuiet, TakesTurn, kept_after}
-use Rattle.codec_payload_session.specs.declared.formats.Format.{Format}
-use Rattle.codec_payload_session.specs.declared.formats.SessionSettings.{SessionSettings}
-use Rattle.codec_payload_session.specs.declared.formats.SsrcPair.{SsrcPair}
+use Rattle.codec_payload_session_formats.specs.declared.formats.Format.{Format}
+use Rattle.codec_payload_session_formats.specs.declared.formats.SessionSettings.{SessionSettings}
+use Rattle.codec_payload_session_formats.specs.declared.formats.SsrcPair.{SsrcPair}
 use Rattle.codec_payload_session.specs.declared.session.Arrival.{Arrival}
 use Rattle.codec_payload_session.specs.declared.session.Arrival.TheVariants as arrivals
 use Rattle.codec_payload_session.specs.Units.{Event}

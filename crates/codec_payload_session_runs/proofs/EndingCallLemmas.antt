@@ -15,7 +15,7 @@ use Rattle.codec_payload_receiver.specs.declared.receiver.ReceiveError.{ReceiveE
 use Rattle.codec_payload_rtcp.specs.RtcpPackets.{Packet}
 use Rattle.codec_payload_rtcp.specs.RtcpReading.{compound_at}
 use Rattle.codec_payload_rtcp.specs.declared.packet.RtcpError.{RtcpError}
-use Rattle.codec_payload_session.specs.Late.{limit_by}
+use Rattle.codec_payload_session_requests.specs.Late.{limit_by}
 use Rattle.codec_payload_session.specs.Keyframes.{asked_among, asked_with}
 use Rattle.codec_payload_session.specs.Accepting.{Accepts, noted_in, time_for}
 use Rattle.codec_payload_session.specs.Arrivals.{Arrives, BeginsIf, BeginsOrFeeds, BeginsWith, Feeds, FeedsIf, Port, TakesInAs, TakesMedia, arrival_of, goodbye_at, has_place, leaving, left_where, without, has_ssrc}
@@ -28,17 +28,17 @@ use Rattle.codec_payload_session.specs.Ports.{ReportsIf as ReportsPlace}
 use Rattle.codec_payload_session.specs.Reporting.{all_reported, is_chosen, reported_if, room_after}
 use Rattle.codec_payload_session.specs.Reports.{noted, noted_at, reported_by}
 use Rattle.codec_payload_session.specs.Reports.{noted_in as clocks_in}
-use Rattle.codec_payload_session.specs.Names.{names_after}
-use Rattle.codec_payload_session.specs.Requests.{heard_by, number_at, wait_by}
-use Rattle.codec_payload_session.specs.Sorting.{Sorted, sorted_at}
-use Rattle.codec_payload_session.specs.Sorting as sorted
+use Rattle.codec_payload_session_formats.specs.Names.{names_after}
+use Rattle.codec_payload_session_requests.specs.Requests.{heard_by, number_at, wait_by}
+use Rattle.codec_payload_session_formats.specs.Sorting.{Sorted, sorted_at}
+use Rattle.codec_payload_session_formats.specs.Sorting as sorted
 use Rattle.codec_payload_session.specs.Streams.{Takes, accepted_after, heard_unless, is_accepted, is_no_memory, is_of, late_followed, late_noted, received, stage_after, waiting_for, waiting_if, waiting_when, asked_for, asked_unless, is_ending}
 use Rattle.codec_payload_session.specs.Telephone.{event_of as telephone_event}
 use Rattle.codec_payload_session.specs.Turns.{AreQuiet, TakesTurn, event_of, kept_after}
 use Rattle.codec_payload_session.specs.Units.{Event, Step}
-use Rattle.codec_payload_session.specs.declared.formats.Format.{Format}
-use Rattle.codec_payload_session.specs.declared.formats.SessionSettings.{SessionSettings}
-use Rattle.codec_payload_session.specs.declared.formats.SsrcPair.{SsrcPair}
+use Rattle.codec_payload_session_formats.specs.declared.formats.Format.{Format}
+use Rattle.codec_payload_session_formats.specs.declared.formats.SessionSettings.{SessionSettings}
+use Rattle.codec_payload_session_formats.specs.declared.formats.SsrcPair.{SsrcPair}
 use Rattle.codec_payload_session.specs.declared.session.Arrival.{Arrival}
 use Rattle.codec_payload_session.specs.declared.session.Arrival.TheVariants as arrivals
 use Rattle.codec_payload_session.specs.declared.session.Event.TheVariants as events

@@ -1,8 +1,8 @@
 -- Runs of a session, call by call.
 use Rattle.std.proofs.Common.{◌≡◌, refl, ap, subst, List, [], ◌∷◌, ◌++◌, Option, Some, None, Ok, Err, length, arith}
 use Rattle.codec_payload_session.specs.Ports.{Session, made_of, new_session}
-use Rattle.codec_payload_session.specs.declared.checks.SessionSettingsError.{SessionSettingsError}
-use Rattle.codec_payload_session.specs.declared.formats.SessionSettings.{SessionSettings as Settings}
+use Rattle.codec_payload_session_formats.specs.declared.checks.SessionSettingsError.{SessionSettingsError}
+use Rattle.codec_payload_session_formats.specs.declared.formats.SessionSettings.{SessionSettings as Settings}
 use Rattle.codec_payload_session_runs.specs.SessionRuns.{Call, Does, Runs, calls_of, refusal_of}
 use Rattle.codec_payload_session_runs.specs.declared.run.NewRunError.TheVariants as refusals
 use Rattle.codec_payload_session_runs.specs.declared.run.SessionStep.{SessionStep}

@@ -4,7 +4,7 @@ use Rattle.std.specs.Global.{Vec}
 use Rattle.std.specs.declared.alloc.AllocError.{AllocError}
 use Rattle.std.proofs.lemmas.Bool.Decides.{nat_tests}
 use Rattle.codec_payload_base.specs.declared.wire.Ticks.{Ticks}
-use Rattle.codec_payload_buffer.specs.Release.{Release}
+use Rattle.codec_payload_metadata.specs.Release.{Release}
 use Rattle.codec_payload_feedback_wait.specs.Waits.{Wait}
 use Rattle.codec_payload_jitter.specs.declared.outcome.Outcome.{Outcome}
 use Rattle.codec_payload_receiver.specs.Sessions.{Session as Receiver}
@@ -12,15 +12,15 @@ use Rattle.codec_payload_receiver.specs.declared.pops.Popped.{Popped}
 use Rattle.codec_payload_receiver.specs.declared.pops.Popped.TheVariants as popped
 use Rattle.codec_payload_receiver.specs.declared.receiver.ReceiveError.{ReceiveError}
 use Rattle.codec_payload_session.specs.Arrivals.{Arrives, arrival_of}
-use Rattle.codec_payload_session.specs.Formats.{retransmission_for}
-use Rattle.codec_payload_session.specs.Late.{limit_by}
+use Rattle.codec_payload_session_formats.specs.Formats.{retransmission_for}
+use Rattle.codec_payload_session_requests.specs.Late.{limit_by}
 use Rattle.codec_payload_session.specs.Pairs.{paired, paired_when}
-use Rattle.codec_payload_session.specs.Names.{names_after}
-use Rattle.codec_payload_session.specs.Requests.{Asking, answered_if, heard_by, number_at, wait_by}
+use Rattle.codec_payload_session_formats.specs.Names.{names_after}
+use Rattle.codec_payload_session_requests.specs.Requests.{Asking, answered_if, heard_by, number_at, wait_by}
 use Rattle.codec_payload_session.specs.Streams.{Drains, Follows, Plays, RequestsBy, RestsBy, Steps, StepsBy, Takes, accepted_after, end_of, heard_unless, is_accepted, is_keyframe, is_no_memory, is_probation, late_followed, late_noted, left_when, received, stage_after, stage_left, step_of, step_with, waiting_for}
 use Rattle.codec_payload_session.specs.Turns.{event_of, kept_after}
-use Rattle.codec_payload_session.specs.declared.formats.Format.{Format}
-use Rattle.codec_payload_session.specs.declared.formats.SsrcPair.{SsrcPair}
+use Rattle.codec_payload_session_formats.specs.declared.formats.Format.{Format}
+use Rattle.codec_payload_session_formats.specs.declared.formats.SsrcPair.{SsrcPair}
 use Rattle.codec_payload_session.specs.declared.session.Arrival.{Arrival}
 use Rattle.codec_payload_session.specs.Units.{Event}
 use Rattle.codec_payload_session.specs.declared.session.Event.TheVariants as events

@@ -10,7 +10,7 @@ use Rattle.codec_payload_session.specs.Pairs.{Pairs, with_pair, without_pair}
 use Rattle.codec_payload_session.specs.Polls.{Polls}
 use Rattle.codec_payload_session.specs.Ports.{ReportsIf, Session, ends_all, ends_of, restarts_transport, waits_of}
 use Rattle.codec_payload_session.specs.Streams.{is_of}
-use Rattle.codec_payload_session.specs.declared.checks.SessionSettingsError.{SessionSettingsError}
+use Rattle.codec_payload_session_formats.specs.declared.checks.SessionSettingsError.{SessionSettingsError}
 use Rattle.codec_payload_session.specs.declared.session.Arrival.{Arrival}
 use Rattle.codec_payload_session.specs.Units.{Event}
 use Rattle.codec_payload_session_runs.specs.declared.run.NewRunError.{NewRunError}

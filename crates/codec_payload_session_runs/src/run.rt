@@ -2,9 +2,9 @@
 
 ghost use Rattle.std.specs.Prelude.{◌≡◌, length, IfErr, IfOk, OnErr, Option};
 ghost use Rattle.codec_payload_session.specs.Accepting.{Accepts, time_for};
-ghost use Rattle.codec_payload_session.specs.Checks.{fault_of};
+ghost use Rattle.codec_payload_session_formats.specs.Checks.{fault_of};
 ghost use Rattle.codec_payload_session.specs.Ports.{new_session, taken_in, told_counts};
-ghost use Rattle.codec_payload_session.specs.declared.formats.SessionSettings.{SessionSettings as Settings};
+ghost use Rattle.codec_payload_session_formats.specs.declared.formats.SessionSettings.{SessionSettings as Settings};
 ghost use Rattle.codec_payload_session_runs.specs.Counting.{Counts};
 ghost use Rattle.codec_payload_session_runs.specs.Endings.{EndsHaveCauses, StreamsAreAlone, TwoDatagramsBegin};
 ghost use Rattle.codec_payload_session_runs.specs.Lives.{EachEndedAlone, EachIsAlone, TellsInOrder};
@@ -13,10 +13,10 @@ ghost use Rattle.codec_payload_session_runs.specs.SessionRuns.{Does, Runs, calls
 use codec_payload_base::wire::Ticks;
 use codec_payload_jitter::waiting::WaitLimits;
 use codec_payload_rtcp::items::ReportBlock;
-use codec_payload_session::checks::SessionSettingsError;
-use codec_payload_session::formats::SessionSettings;
 use codec_payload_session::keyframe::KeyframeAnswer;
 use codec_payload_session::session::{Arrival, Event, Session, SessionCounts};
+use codec_payload_session_formats::checks::SessionSettingsError;
+use codec_payload_session_formats::formats::SessionSettings;
 use std::alloc::{AllocError, Global};
 use thiserror::Error;
 

@@ -2,9 +2,9 @@
 
 //! A packet in the queue of a buffer.
 
-use super::known::PackedMeta;
-use super::unit::RtpMeta;
 use crate::memory::One;
+use crate::metadata::known::PackedMeta;
+use crate::metadata::meta::RtpMeta;
 use alloc::vec::Vec;
 use core::mem::size_of;
 

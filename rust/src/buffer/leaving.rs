@@ -2,10 +2,11 @@
 
 //! Pops that count the packets that leave the buffer without being released, by the reason.
 
-use super::unit::{Depacketized, RtpMeta, UnitInfo};
+use super::unit::{Depacketized, UnitInfo};
 use super::{DepacketizingBuffer, unit_of};
 use crate::codec::Depacketizer;
 use crate::error::PacketError;
+use crate::metadata::meta::RtpMeta;
 use alloc::vec::Vec;
 
 /// How many packets left the buffer in a pop without being released in a unit, by the reason.
@@ -34,9 +35,11 @@ impl<B: Depacketizer> DepacketizingBuffer<B> {
         }
     }
 
-    /// Does the same as [`DepacketizingBuffer::pop_into`], and returns how many packets left the buffer without being
-    /// released. Packets that were evicted by a push are not among them.
-    pub fn pop_counted_into(
+    /// Does the same as [`DepacketizingBuffer::pop_counted`], and writes to the caller's memory, which can be reused. If it
+    /// returns a unit, `bytes` holds the bytes of the unit and `metas` the metadata of its packets in order of their numbers;
+    /// earlier contents are replaced. In every other case the contents of both are unspecified. Allocates only if the capacity
+    /// of `bytes` or `metas` is too small.
+    fn pop_counted_into(
         &mut self,
         bytes: &mut Vec<u8>,
         metas: &mut Vec<RtpMeta>,

@@ -4,12 +4,12 @@
 
 use super::frames::CompleteFrame;
 use super::held_packet::{HeldPacket, Packet, Tells};
-use super::known::PackedMeta;
-use super::unit::RtpMeta;
 use crate::codec::{CodecDepacketizer, Depacketizer};
 use crate::error::PacketError;
 use crate::interface::CodecExtra;
 use crate::memory::{AllocError, One, TryVec};
+use crate::metadata::known::PackedMeta;
+use crate::metadata::meta::RtpMeta;
 use crate::queue::tiers::TieredQueue;
 use crate::wire::Ticks;
 use alloc::vec::Vec;
@@ -66,7 +66,7 @@ fn keep(spare: &mut Vec<One<Packet>>, block: One<Packet>) {
     }
 }
 
-/// Returns whether a payload with this room is kept beside so many memory blocks.
+/// Returns whether a payload with this room is kept, if so many memory blocks are kept already.
 #[inline(always)]
 fn is_kept(blocks: usize, room: usize) -> bool {
     room <= SMALL_PAYLOAD || (blocks < LARGE_PAYLOADS && room <= LARGE_PAYLOAD)

@@ -6,14 +6,14 @@ use super::DepacketizingBuffer;
 use super::ends::{evict, place_at, row_with};
 use super::frames::{CompleteFrame, frame_of, mend_first, note};
 use super::held_packet::{HeldPacket, Packet};
-use super::known::PackedMeta;
 use super::packets::{find_place, hold, is_at, is_too_late};
 use super::placed::{Placed, placed_among};
 use super::rows::row_of_packet;
-use super::unit::RtpMeta;
 use crate::codec::{CodecDepacketizer, Depacketizer};
 use crate::error::PacketError;
 use crate::memory::One;
+use crate::metadata::known::PackedMeta;
+use crate::metadata::meta::RtpMeta;
 use crate::queue::tiers::TieredQueue;
 use alloc::vec::Vec;
 

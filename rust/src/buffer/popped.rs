@@ -2,10 +2,10 @@
 
 //! A popped unit in memory that the next pop uses again.
 
-use super::known::PackedMeta;
 use super::popped_packets::{PoppedPackets, values_among};
-use super::unit::RtpMeta;
 use crate::interface::CodecExtra;
+use crate::metadata::known::PackedMeta;
+use crate::metadata::meta::RtpMeta;
 use crate::wire::{ExtensionValues, MediaTime, SenderInfo, SeqNo, Ticks};
 use alloc::vec::Vec;
 use core::mem;

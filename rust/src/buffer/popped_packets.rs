@@ -2,7 +2,7 @@
 
 //! The metadata of the packets of a popped unit, apart from its bytes.
 
-use super::known::PackedMeta;
+use crate::metadata::known::PackedMeta;
 use crate::wire::ExtensionValues;
 use alloc::vec::Vec;
 

@@ -3,7 +3,6 @@
 //! Pops that write a unit to memory that can be used again, and move the metadata of its packets.
 
 use super::frames::{CompleteFrame, drop_first};
-use super::known::PackedMeta;
 use super::leaving::{Left, left_by, refused_by};
 use super::one_packet::{make_room_for, unpack_frame};
 use super::packets::{frame_range, move_frame, starts_next};
@@ -13,6 +12,7 @@ use crate::codec::Depacketizer;
 use crate::error::PacketError;
 use crate::interface::CodecExtra;
 use crate::memory::TryVec;
+use crate::metadata::known::PackedMeta;
 use alloc::vec::Vec;
 
 /// The result for the frame that is due, if the depacketizer accepts its payloads.

@@ -43,6 +43,14 @@ impl Times {
     pub fn first(&self, now: u64) -> Option<usize> {
         first(&self.levels, now)
     }
+
+    /// Returns the first place from `from` on whose time has come.
+    pub fn first_from(&self, from: usize, now: u64) -> Option<usize> {
+        if from == 0 {
+            return self.first(now);
+        }
+        first_from(&self.levels, from, now)
+    }
 }
 
 /// Returns the first level.
@@ -163,4 +171,30 @@ fn first(levels: &Vec<Vec<u64>>, now: u64) -> Option<usize> {
         place = first_below(&levels[level], place, now);
     }
     place
+}
+
+/// Returns whether there is a time at this place, and has come.
+fn has_come(level: &[u64], place: usize, now: u64) -> bool {
+    match level.get(place) {
+        Some(time) => *time <= now,
+        None => false,
+    }
+}
+
+/// Returns the first place from `from` on in the first of these levels whose time has come. It climbs only as far as no time has
+/// come, at most to the last level.
+fn first_from(levels: &[Vec<u64>], from: usize, now: u64) -> Option<usize> {
+    let [level, above @ ..] = levels else {
+        return None;
+    };
+    if has_come(level, from, now) {
+        return Some(from);
+    }
+    if above.len() == 0 {
+        return None;
+    }
+    match first_from(above, from / 2 + from % 2, now) {
+        Some(pair) => Some(place_in(level, pair, now)),
+        None => None,
+    }
 }

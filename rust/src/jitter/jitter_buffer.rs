@@ -13,9 +13,7 @@ mod keeping;
 mod restarting;
 mod unit_pops;
 
-use crate::buffer::{
-    Depacketized, DepacketizingBuffer, PackedHeader, PackedMeta, RtpMeta, UnitInfo,
-};
+use crate::buffer::{Depacketized, DepacketizingBuffer, PackedHeader, PackedMeta};
 use crate::codec::{CodecDepacketizer, Depacketizer, NoBox};
 use crate::error::PacketError;
 use crate::jitter::kept_missing::{KeptMissing, is_sound};
@@ -25,8 +23,8 @@ use crate::jitter::noted_times::{NotedTime, NotedTimes};
 use crate::jitter::numbers::{Extended, SequenceNumbers, lowest_with};
 pub use crate::jitter::outcome::{Outcome, PacketCounters};
 use crate::jitter::outcome::{
-    count, is_stored, outcome_of, packets_in, packets_into, units_in, units_into, with_again,
-    with_outcome, with_pop, with_recovered,
+    count, is_stored, outcome_of, packets_in, units_in, with_again, with_outcome, with_pop,
+    with_recovered,
 };
 pub use crate::jitter::waiting::WaitLimits;
 use crate::jitter::waiting::{deadline, room_for};
@@ -316,29 +314,6 @@ impl<B: Depacketizer> JitterBuffer<B> {
         let (answer, left) = self.buffer.pop_counted();
         let units = units_in(&answer);
         let released = packets_in(&answer);
-        self.counters = with_pop(self.counters, units, released, left);
-        answer
-    }
-
-    /// Does the same as [`JitterBuffer::pop`], and writes to the caller's memory, which can be reused. If it returns a unit,
-    /// `bytes` holds the bytes of the unit and `metas` the metadata of its packets in order of their numbers; earlier contents
-    /// are replaced. In every other case the contents of both are unspecified. Allocates only if the capacity of `bytes` or
-    /// `metas` is too small.
-    pub fn pop_into(
-        &mut self,
-        now: Ticks,
-        bytes: &mut Vec<u8>,
-        metas: &mut Vec<RtpMeta>,
-    ) -> Option<Result<UnitInfo, PacketError>> {
-        self.settle();
-        let Some(hold_back) = self.waiting(now) else {
-            return None;
-        };
-        self.buffer.set_hold_back(hold_back);
-        is_sound(&self.buffer);
-        let (answer, left) = self.buffer.pop_counted_into(bytes, metas);
-        let units = units_into(&answer);
-        let released = packets_into(&answer, metas);
         self.counters = with_pop(self.counters, units, released, left);
         answer
     }

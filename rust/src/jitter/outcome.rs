@@ -2,7 +2,7 @@
 
 //! Outcomes of packets, and their counters.
 
-use crate::buffer::{Depacketized, Left, Placed, PoppedUnit, RtpMeta, UnitInfo};
+use crate::buffer::{Depacketized, Left, Placed, PoppedUnit};
 use crate::error::PacketError;
 
 /// What was done with a packet.
@@ -203,25 +203,6 @@ pub(crate) fn units_in(answer: &Option<Result<Depacketized, PacketError>>) -> u6
 pub(crate) fn packets_in(answer: &Option<Result<Depacketized, PacketError>>) -> usize {
     match answer {
         Some(Ok(unit)) => unit.meta().len(),
-        _ => 0,
-    }
-}
-
-/// Returns the number of units that were released into the caller's memory: 1 or 0.
-pub(crate) fn units_into(answer: &Option<Result<UnitInfo, PacketError>>) -> u64 {
-    match answer {
-        Some(Ok(_)) => 1,
-        _ => 0,
-    }
-}
-
-/// Returns the number of packets of a unit that was released into the caller's memory; `metas` has one item for each.
-pub(crate) fn packets_into(
-    answer: &Option<Result<UnitInfo, PacketError>>,
-    metas: &[RtpMeta],
-) -> usize {
-    match answer {
-        Some(Ok(_)) => metas.len(),
         _ => 0,
     }
 }

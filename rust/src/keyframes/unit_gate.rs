@@ -41,6 +41,7 @@ impl UnitGate {
 
     /// Records a released unit with its flag `contiguous`, its codec-specific data, and what its packets say of its references. Returns
     /// whether to pass it on. See [`KeyframeGate::release`].
+    #[inline(always)]
     pub fn release(
         &mut self,
         unit: &[u8],
@@ -48,10 +49,22 @@ impl UnitGate {
         extra: &CodecExtra,
         references: &UnitReferences,
     ) -> bool {
-        self.is_keyframe = false;
-        if !self.gate.is_of_video() {
-            return true;
+        if self.gate.is_of_video() {
+            return self.release_video(unit, contiguous, extra, references);
         }
+        self.is_keyframe = false;
+        true
+    }
+
+    /// Does the same, out of the way of units of audio.
+    #[inline(never)]
+    fn release_video(
+        &mut self,
+        unit: &[u8],
+        contiguous: bool,
+        extra: &CodecExtra,
+        references: &UnitReferences,
+    ) -> bool {
         self.is_keyframe = self.gate.is_key(unit);
         let is_shown = self
             .gate

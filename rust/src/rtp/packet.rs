@@ -426,6 +426,7 @@ impl<'a> RtpPacket<'a> {
     /// The first fault from left to right: `HeaderTooShort`, `WrongVersion`, `CsrcsTooShort`, `ExtensionHeaderTooShort`,
     /// `ExtensionTooShort`, then `PaddingOfZero` or `PaddingTooLong`. If P is set and no byte follows the header, the result is
     /// `PaddingTooLong`.
+    #[inline(always)]
     pub fn parse(bytes: &'a [u8]) -> Result<RtpPacket<'a>, RtpError> {
         RtpPacket::read(bytes)
     }

@@ -40,10 +40,24 @@ pub(crate) fn take_in(
     match pair_at(settings, &streams.list, now, datagram) {
         Some(pair) => {
             add_pair(settings, streams, pair)?;
-            streams.take_in(settings, now, datagram)
+            let mut again = Ok(Arrival::Unassociated);
+            take_in_again(settings, streams, now, datagram, &mut again);
+            again
         }
         None => answer,
     }
+}
+
+/// Receives a datagram for which a pair was added. It is rare, and writes the answer to `again`, so that `take_in` is inlined once.
+#[inline(never)]
+fn take_in_again(
+    settings: &SessionSettings,
+    streams: &mut Streams,
+    now: Ticks,
+    datagram: &ParsedDatagram<'_>,
+    again: &mut Result<Arrival, AllocError>,
+) {
+    *again = streams.take_in(settings, now, datagram);
 }
 
 /// Adds a pair to the settings, and gives the streams of its SSRC their retransmissions. If memory runs out, nothing has changed.

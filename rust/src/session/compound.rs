@@ -2,22 +2,27 @@
 
 //! Compound packets of RTCP (RFC 3550, section 6.1): the sender reports and BYEs that they have.
 
+use crate::index::ssrcs::Ssrcs;
 use crate::rtcp::compound::Packets;
-use crate::session::goodbyes::leave_by_packet;
+use crate::session::goodbyes::{either, leave_by_packet};
 use crate::session::reports::note_packet;
 use crate::session::stream::StreamState;
 use crate::wire::Ticks;
 
 /// Takes the packets of a compound packet that arrived at `now`, each once. A sender report states the clock of the streams of its
-/// SSRC. The streams that a BYE names end at `at`.
+/// SSRC. The streams that a BYE names end at `at`. If no stream ends, it returns `false`.
 pub(crate) fn take_packets(
     streams: &mut [StreamState],
+    ssrcs: &Ssrcs,
     now: Ticks,
     at: u64,
     mut packets: Packets<'_>,
-) {
+) -> bool {
+    let mut ends = false;
     while let Some(packet) = packets.next() {
-        note_packet(streams, now, &packet);
-        leave_by_packet(streams, &packet, at);
+        note_packet(streams, ssrcs, now, &packet);
+        let named = leave_by_packet(streams, ssrcs, &packet, at);
+        ends = either(ends, named);
     }
+    ends
 }

@@ -2,24 +2,45 @@
 
 //! BYEs of RTCP (RFC 3550, section 6.6): the streams that they name leave.
 
+use crate::index::ssrcs::Ssrcs;
 use crate::rtcp::packet::RtcpPacket;
 use crate::session::stream::{Ending, StreamState};
-use crate::session::streams::{Who, leave};
+use crate::session::streams::{Who, leave_if};
 
-/// Ends the streams that the packet names, if it is a BYE.
-pub(crate) fn leave_by_packet(streams: &mut [StreamState], packet: &RtcpPacket<'_>, at: u64) {
-    if let RtcpPacket::Goodbye(goodbye) = packet {
-        leave_each(streams, goodbye.ssrcs, at);
+/// Ends the streams that the packet names, if it is a BYE. Without such a stream it returns `false`.
+#[inline(always)]
+pub(crate) fn leave_by_packet(
+    streams: &mut [StreamState],
+    ssrcs: &Ssrcs,
+    packet: &RtcpPacket<'_>,
+    at: u64,
+) -> bool {
+    match packet {
+        RtcpPacket::Goodbye(goodbye) => leave_each(streams, ssrcs, goodbye.ssrcs, at),
+        _ => false,
     }
 }
 
-/// Ends the streams of the SSRCs in the list.
-fn leave_each(streams: &mut [StreamState], ssrcs: &[u8], at: u64) {
-    let mut rest = ssrcs;
+/// Ends the streams of the SSRCs that a BYE names. Without such a stream it returns `false`.
+fn leave_each(streams: &mut [StreamState], ssrcs: &Ssrcs, named: &[u8], at: u64) -> bool {
+    let mut rest = named;
+    let mut ends = false;
     while let Some((ssrc, others)) = front_source(rest) {
-        leave(streams, Who::Of(ssrc), Ending::Bye, at);
+        let left = leave_of(streams, ssrcs, ssrc, at);
+        ends = either(ends, left);
         rest = others;
     }
+    ends
+}
+
+/// Ends the streams of this SSRC, by the list of the SSRCs of the streams. Without one it returns `false`.
+fn leave_of(streams: &mut [StreamState], ssrcs: &Ssrcs, ssrc: u32, at: u64) -> bool {
+    let mut from = 0;
+    while let Some(place) = ssrcs.find(ssrc, from) {
+        leave_if(&mut streams[place], Who::Of(ssrc), Ending::Bye, at);
+        from = place + 1;
+    }
+    from > 0
 }
 
 /// Returns the SSRC at the front, and the SSRCs after it.
@@ -28,4 +49,10 @@ fn front_source(ssrcs: &[u8]) -> Option<(u32, &[u8])> {
         return None;
     };
     Some((u32::from_be_bytes([*s3, *s2, *s1, *s0]), rest))
+}
+
+/// Returns whether one of them is true.
+#[inline(always)]
+pub(crate) fn either(one: bool, other: bool) -> bool {
+    one || other
 }

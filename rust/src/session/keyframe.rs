@@ -2,20 +2,9 @@
 
 //! Keyframes that the caller of a session asks for.
 
+pub use crate::session::requests::KeyframeAnswer;
 use crate::session::sessions::Session;
 use crate::session::streams::Streams;
-use crate::session::waking::Waking;
-
-/// What a session does with a request for a keyframe.
-#[derive(Clone, Copy, Debug, PartialEq, Eq)]
-pub enum KeyframeAnswer {
-    /// The stream requests a keyframe as soon as its limit allows.
-    Requested,
-    /// No stream has this SSRC, or the first one that has it is about to end.
-    NoStream,
-    /// The sender answers no requests for keyframes: the format has no `pli`, or the settings of the session have no `feedback`.
-    NotNegotiated,
-}
 
 impl Session {
     /// Asks the sender of the stream with this SSRC for a keyframe, by a PLI (RFC 4585, section 6.3.1): for another receiver that
@@ -51,7 +40,7 @@ impl Streams {
 
     /// Asks for a keyframe of the stream at this place.
     fn request_keyframe_at(&mut self, place: usize) -> KeyframeAnswer {
-        self.waking = Waking::unknown();
+        self.waking.forget();
         self.list[place].request_keyframe()
     }
 }

@@ -7,12 +7,10 @@ use crate::memory::AllocError;
 use crate::rtcp::items::ReportBlock;
 use crate::rtcp::packet::ReceiverReport;
 use crate::rtcp::writing::write_cname;
-use crate::session::formats::{FeedbackSettings, SessionSettings};
+use crate::session::formats::{FeedbackSettings, LONGEST_NAME, SessionSettings};
 use crate::session::reports::block_about;
-use crate::session::requests::LONGEST_NAME;
 use crate::session::stream::StreamState;
 use crate::session::streams::Streams;
-use crate::session::waking::Waking;
 use crate::wire::{Frequency, Ticks};
 use alloc::vec::Vec;
 
@@ -76,7 +74,7 @@ impl Streams {
         let mut blocks = Vec::new();
         append_blocks(&self.list, round, now, tick_rate, &mut blocks)?;
         let packet = write_report(feedback, &blocks)?;
-        self.waking = Waking::unknown();
+        self.waking.forget();
         start_fractions(&mut self.list, round);
         Ok(packet)
     }

@@ -3,6 +3,7 @@
 //! Reports of RTCP (RFC 3550, section 6.4): what the sender reports say about the clock of a stream, and the blocks that
 //! receiver reports have about its packets.
 
+use crate::index::ssrcs::Ssrcs;
 use crate::rtcp::items::ReportBlock;
 use crate::rtcp::packet::{RtcpPacket, SenderReport};
 use crate::session::stream::StreamState;
@@ -65,16 +66,24 @@ impl StreamState {
 }
 
 /// Notes the packet if it is a sender report: it states the clock of the streams of its SSRC. It arrived at `now`.
-pub(crate) fn note_packet(streams: &mut [StreamState], now: Ticks, packet: &RtcpPacket<'_>) {
+#[inline(always)]
+pub(crate) fn note_packet(
+    streams: &mut [StreamState],
+    ssrcs: &Ssrcs,
+    now: Ticks,
+    packet: &RtcpPacket<'_>,
+) {
     if let RtcpPacket::SenderReport(report) = packet {
-        set_clocks(streams, report.ssrc, clock_of(now, report));
+        set_clocks(streams, ssrcs, report.ssrc, clock_of(now, report));
     }
 }
 
-/// Replaces the clock of all streams of this SSRC.
-fn set_clocks(streams: &mut [StreamState], ssrc: u32, clock: SenderClock) {
-    for place in 0..streams.len() {
+/// Replaces the clock of all streams of this SSRC, by the list of the SSRCs of the streams.
+fn set_clocks(streams: &mut [StreamState], ssrcs: &Ssrcs, ssrc: u32, clock: SenderClock) {
+    let mut from = 0;
+    while let Some(place) = ssrcs.find(ssrc, from) {
         streams[place].set_clock_if(ssrc, clock);
+        from = place + 1;
     }
 }
 

@@ -22,7 +22,7 @@ use crate::session::reports::SenderClock;
 use crate::session::stream::{Ending, StreamInfo, earlier};
 use crate::session::streams::{Streams, Who};
 use crate::session::telephone::TelephoneQueue;
-use crate::session::transport::{note, reporter_for, restart, time_of, transport_deadline};
+use crate::session::transports::{note, reporter_for, restart, time_of, transport_deadline};
 use crate::stream::parsed::ParsedDatagram;
 use crate::stream::receiver::{ReceiveError, Receiver};
 use crate::wire::Ticks;

@@ -11,14 +11,13 @@ use crate::jitter::outcome::Outcome;
 use crate::memory::{AllocError, One};
 use crate::session::changes::{are_alike, takes_turns};
 use crate::session::formats::{Format, SessionSettings, SsrcPair, retransmission_for};
-use crate::session::keyframe::KeyframeAnswer;
 use crate::session::late::{follow, late_for, limit_by};
 use crate::session::named::NamedReceiver;
 use crate::session::names::{StreamNameIds, StreamNames};
 use crate::session::reports::SenderClock;
 use crate::session::requests::{
-    Feedback, answer_if, ask_keyframe, hear, request_counts, requests_due, rest_time, round_trip,
-    wait_by,
+    Feedback, KeyframeAnswer, answer_if, ask_keyframe, hear, request_counts, requests_due,
+    rest_time, round_trip, wait_by,
 };
 use crate::stream::parsed::ParsedDatagram;
 use crate::stream::pops::Popped;
@@ -403,10 +402,10 @@ impl StreamState {
                 step_with(popped)
             }
             None => {
-                let step = self.rest(now);
+                let (step, calm) = self.rest(now);
                 if is_nothing(&step) && self.receiver.inner().held() == held {
                     let work = self.find_work();
-                    let until = self.quiet_time(now, work);
+                    let until = self.quiet_time(now, work, calm);
                     let kept = or_none(work);
                     self.quiet_until = until;
                     self.work = kept;
@@ -417,37 +416,38 @@ impl StreamState {
     }
 
     /// Returns until when the stream has no event, if it had none at `now`, and none of its packets left. 0: it is not known.
-    /// `work` is its `work_deadline`.
+    /// `work` is its `work_deadline`, and `calm` says that nothing is to be requested.
     #[inline(always)]
-    fn quiet_time(&self, now: Ticks, work: Option<u64>) -> u64 {
+    fn quiet_time(&self, now: Ticks, work: Option<u64>, calm: bool) -> u64 {
         if !self.told || !is_playing(self.stage) {
             return 0;
         }
-        let rest = rest_time(&self.feedback, now, self.last, self.receiver.inner());
+        let rest = rest_time(&self.feedback, now, self.last, self.receiver.inner(), calm);
         match work {
             Some(at) => rest.min(at),
             None => rest,
         }
     }
 
-    /// Returns the step of a stream without a unit: its end, or what it requests.
+    /// Returns the step of a stream without a unit: its end, or what it requests. With `true` beside it nothing is to be requested.
     #[inline(always)]
-    fn rest(&mut self, now: Ticks) -> Step<()> {
+    fn rest(&mut self, now: Ticks) -> (Step<()>, bool) {
         match self.stage {
             Stage::Playing => self.request(now),
-            Stage::Draining(why) => Step::Ended(why),
-            _ => Step::Nothing,
+            Stage::Draining(why) => (Step::Ended(why), false),
+            _ => (Step::Nothing, false),
         }
     }
 
-    /// Returns the requests that are due, by what the receiver misses now.
+    /// Returns the requests that are due, by what the receiver misses now. With `true` beside them nothing is to be requested.
     #[inline(always)]
-    fn request(&mut self, now: Ticks) -> Step<()> {
+    fn request(&mut self, now: Ticks) -> (Step<()>, bool) {
         self.quiet_until = 0;
         if let Some(feedback) = &mut self.feedback {
-            return step_of(feedback.take_due(now, self.last, &mut self.receiver));
+            let (due, calm) = feedback.take_due(now, self.last, &mut self.receiver);
+            return (step_of(due), calm);
         }
-        Step::Nothing
+        (Step::Nothing, true)
     }
 
     /// Returns when the stream may have a unit, or a request is due.
@@ -509,13 +509,18 @@ impl StreamState {
         }
     }
 
-    /// Returns until when the stream has no event, and when its latest datagram arrived. A stream in probation has none.
-    pub(crate) fn asleep(&self) -> (u64, u64) {
+    /// Returns a time before which the stream has neither an event nor a deadline. 0: none is known.
+    pub(crate) fn wakes_at(&self, idle_timeout: u64) -> u64 {
         if is_probation(self.stage) {
-            (u64::MAX, u64::MAX)
-        } else {
-            (self.quiet_until, self.last)
+            return u64::MAX;
         }
+        if self.quiet_until == 0 || idle_timeout == 0 {
+            return 0;
+        }
+        let idle_at = self.last.saturating_add(idle_timeout);
+        self.quiet_until
+            .min(idle_at)
+            .min(self.due_key(idle_timeout))
     }
 
     /// Describes the stream, as a caller sees it.

@@ -12,14 +12,14 @@ use crate::rtcp::items::ReportBlock;
 use crate::rtp::packet::PacketHeader;
 use crate::session::changes::{continues, leave_behind};
 use crate::session::compound::take_packets;
-use crate::session::dues::Dues;
+use crate::session::dues::due_in;
 use crate::session::formats::{Format, SessionSettings, SsrcPair};
 use crate::session::pairs::{pair, with_pair};
 use crate::session::renegotiation::leave_formats;
 use crate::session::sessions::{Arrival, Event};
 use crate::session::sort::{SortedPacket, sort};
 use crate::session::stream::{Ending, Step, StreamInfo, StreamState, is_no_memory, is_nothing};
-use crate::session::waking::{Waking, step_excepted};
+use crate::session::waking::{Waking, step_due, step_excepted};
 use crate::stream::parsed::ParsedDatagram;
 use crate::stream::receiver::ReceiveError;
 use crate::wire::{Frequency, Ticks};
@@ -37,10 +37,8 @@ pub(crate) struct Streams {
     pub(crate) ended: u64,
     /// What was known of the stream that was removed last.
     pub(crate) last: Option<StreamInfo>,
-    /// Until when the streams have no event.
+    /// When they may have their next events.
     pub(crate) waking: Waking,
-    /// When each of them may have an event.
-    pub(crate) dues: Dues,
 }
 
 /// The step of the stream at a place.
@@ -68,11 +66,11 @@ impl Streams {
             ended: 0,
             last: None,
             waking: Waking::unknown(),
-            dues: Dues::unknown(),
         }
     }
 
     /// Receives a datagram.
+    #[inline(always)]
     pub(crate) fn take_in(
         &mut self,
         settings: &SessionSettings,
@@ -103,8 +101,9 @@ impl Streams {
 
     /// Takes the packets of a compound packet: sender reports, and BYEs that end streams at `at`.
     fn take_packets(&mut self, now: Ticks, at: u64, packets: Packets<'_>) {
-        self.waking = Waking::unknown();
-        take_packets(&mut self.list, now, at, packets);
+        if take_packets(&mut self.list, &self.ssrcs, now, at, packets) {
+            self.waking.forget();
+        }
     }
 
     /// Receives an RTP packet with this header.
@@ -160,7 +159,7 @@ impl Streams {
             return;
         }
         if continues(&self.list, ssrc, format) {
-            self.waking = Waking::unknown();
+            self.waking.forget();
             leave_behind(&mut self.list, now, wait, (ssrc, *format));
         }
     }
@@ -220,8 +219,7 @@ impl Streams {
         now: Ticks,
         datagram: &ParsedDatagram<'_>,
     ) -> Result<Arrival, AllocError> {
-        self.dues.except(self.waking, place, &self.list);
-        self.waking = self.waking.except(place, &self.list);
+        self.waking.except(place, &self.list);
         let stream = &mut self.list[place];
         feed_one(stream, probation, now, datagram)
     }
@@ -259,7 +257,7 @@ impl Streams {
         let place = leaving(max_streams, &self.list);
         self.list.try_room(1)?;
         self.ssrcs.push(stream.ssrc)?;
-        self.waking = Waking::unknown();
+        self.waking.grow(&self.list);
         self.list.push(stream);
         if let Some(place) = place {
             self.remove(place);
@@ -269,7 +267,7 @@ impl Streams {
 
     /// Removes the stream at this place.
     fn remove(&mut self, place: usize) {
-        self.waking = Waking::unknown();
+        self.waking.forget();
         self.ssrcs.remove(place);
         let gone = self.list.remove(place);
         self.ended = self.ended.wrapping_add(gone.taken);
@@ -285,10 +283,11 @@ impl Streams {
         unit: &mut PoppedUnit,
     ) -> Option<Event<()>> {
         if self.waking.holds(now, idle_timeout) {
-            self.turn_one(now, idle_timeout, unit)
-        } else {
-            self.turn_all(now, idle_timeout, unit)
+            return self.turn_one(now, idle_timeout, unit);
         }
+        let mut event = None;
+        self.turn_all_to(now, idle_timeout, unit, &mut event);
+        event
     }
 
     /// Does the same, mostly while the bound holds: then `step` needs no list of all streams, and its answer no memory.
@@ -305,8 +304,8 @@ impl Streams {
         }
     }
 
-    /// Does the same, and asks all streams.
-    #[inline(never)]
+    /// Does the same by the times of the streams.
+    #[inline(always)]
     fn turn_all(
         &mut self,
         now: Ticks,
@@ -319,30 +318,40 @@ impl Streams {
         }
     }
 
+    /// Writes the same event to `event`, out of the way of `turn_one`, whose event then needs no memory.
+    #[inline(never)]
+    fn turn_all_to(
+        &mut self,
+        now: Ticks,
+        idle_timeout: u64,
+        unit: &mut PoppedUnit,
+        event: &mut Option<Event<()>>,
+    ) {
+        *event = self.turn_all(now, idle_timeout, unit);
+    }
+
     /// Returns the first step with an event. As long as the bound holds, only the stream that is excepted is asked.
     #[inline(always)]
     fn step(&mut self, now: Ticks, idle_timeout: u64, unit: &mut PoppedUnit) -> Option<Turn<()>> {
         if self.waking.holds(now, idle_timeout) {
-            step_excepted(&mut self.list, self.waking, now, idle_timeout, unit)
+            step_excepted(&mut self.list, &self.waking, now, idle_timeout, unit)
         } else {
             self.step_all(now, idle_timeout, unit)
         }
     }
 
-    /// Asks all streams in order, until one has an event. Without an event it is known until when they have none.
+    /// Asks the streams whose time has come, in order, until one has an event. If memory runs out for the times, it asks all.
     fn step_all(
         &mut self,
         now: Ticks,
         idle_timeout: u64,
         unit: &mut PoppedUnit,
     ) -> Option<Turn<()>> {
-        self.waking = Waking::unknown();
-        let turn = step_first(&mut self.list, now, idle_timeout, unit);
-        if turn.is_none() {
-            self.waking = Waking::of(&self.list);
-            self.dues.find(self.waking, &self.list, idle_timeout);
+        if self.waking.find(&self.list, idle_timeout) {
+            step_due(&mut self.waking, &mut self.list, now, idle_timeout, unit)
+        } else {
+            step_first(&mut self.list, now, idle_timeout, unit)
         }
-        turn
     }
 
     /// Returns the event of the stream at a place. A stream that ended is removed.
@@ -393,24 +402,24 @@ impl Streams {
     /// Returns when a stream may have an event without a datagram.
     #[inline(always)]
     pub(crate) fn due_in(&self, idle_timeout: u64) -> Option<u64> {
-        self.dues.due_in(self.waking, &self.list, idle_timeout)
+        due_in(&self.waking, &self.list, idle_timeout)
     }
 
     /// Ends these streams at that time.
     pub(crate) fn leave(&mut self, who: Who, why: Ending, at: u64) {
-        self.waking = Waking::unknown();
+        self.waking.forget();
         leave(&mut self.list, who, why, at);
     }
 
     /// Ends the streams at that time whose formats are not among these.
     pub(crate) fn leave_formats(&mut self, formats: &[Format], at: u64) {
-        self.waking = Waking::unknown();
+        self.waking.forget();
         leave_formats(&mut self.list, formats, at);
     }
 
     /// Replaces the wait limits of the stream with this SSRC and payload type.
     pub(crate) fn set_wait_limits(&mut self, ssrc: u32, payload_type: u8, wait_limits: WaitLimits) {
-        self.waking = Waking::unknown();
+        self.waking.forget();
         set_wait_limits(&mut self.list, ssrc, payload_type, wait_limits);
     }
 
@@ -429,7 +438,7 @@ impl Streams {
 
     /// Returns the report block about the sender of the stream at this place.
     fn report_at(&mut self, place: usize, now: Ticks, tick_rate: Frequency) -> Option<ReportBlock> {
-        self.waking = Waking::unknown();
+        self.waking.forget();
         self.list[place].report(now, tick_rate)
     }
 
@@ -444,14 +453,14 @@ impl Streams {
 
     /// Gives the streams of this SSRC the retransmissions that they have by these pairs.
     pub(crate) fn pair(&mut self, ssrc: u32, pairs: &[SsrcPair]) {
-        self.waking = Waking::unknown();
+        self.waking.forget();
         pair(&mut self.list, ssrc, pairs);
     }
 
     /// Ends all streams at that time, and refuses new ones from now on.
     pub(crate) fn finish(&mut self, at: u64) {
         self.finished = true;
-        self.waking = Waking::unknown();
+        self.waking.forget();
         leave(&mut self.list, Who::All, Ending::Told, at);
     }
 }
@@ -520,14 +529,14 @@ fn step_first(
 }
 
 /// Ends these streams at that time.
-pub(crate) fn leave(streams: &mut [StreamState], who: Who, why: Ending, at: u64) {
+fn leave(streams: &mut [StreamState], who: Who, why: Ending, at: u64) {
     for place in 0..streams.len() {
         leave_if(&mut streams[place], who, why, at);
     }
 }
 
 /// Ends the stream at that time, if it is one of `who`.
-fn leave_if(stream: &mut StreamState, who: Who, why: Ending, at: u64) {
+pub(crate) fn leave_if(stream: &mut StreamState, who: Who, why: Ending, at: u64) {
     let leaves = includes(who, stream.ssrc);
     stream.leave_if(leaves, why, at);
 }

@@ -3,7 +3,7 @@
 //! The answer of a receiver to a datagram.
 
 use crate::jitter::jitter_buffer::Outcome;
-use crate::stream::datagram::{Datagram, Malformation};
+use crate::stream::kinds::{Datagram, Malformation};
 use crate::stream::receiver::ReceiveError;
 use crate::stream::storing::Taken;
 

@@ -3,7 +3,8 @@
 //! A packet that a datagram brings to its stream, whichever way it came.
 
 use crate::rtp::packet::{PacketHeader, RtpPacket};
-use crate::stream::datagram::{RedPacket, SentAgain, StreamKinds};
+use crate::stream::datagram::StreamKinds;
+use crate::stream::kinds::{RedPacket, SentAgain};
 
 /// A packet that a datagram brings, alone or as the primary block of RED. The header of a retransmission has the original number
 /// and SSRC.

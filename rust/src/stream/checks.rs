@@ -3,8 +3,8 @@
 //! Checks of the settings of a receiver.
 
 use crate::red::RedReceiver;
-use crate::stream::datagram::RedStream;
-use crate::stream::receiver::{RedSettings, Retransmission, SettingsError};
+use crate::stream::kinds::{RedStream, Retransmission};
+use crate::stream::receiver::{RedSettings, SettingsError};
 
 /// Places that are kept free with RED: for the primary block of a packet, a suspect packet, and eight redundant blocks.
 const RED_AT_ONCE: usize = 10;

@@ -3,72 +3,17 @@
 //! Which datagrams belong to a stream.
 
 use crate::error::PacketError;
-use crate::red::{RedBlock, RedDecoder, RedReceiver};
-use crate::rtp::packet::{PacketHeader, RtpError, RtpPacket};
+use crate::red::RedReceiver;
+use crate::rtp::packet::RtpPacket;
 use crate::rtp::values::ExtensionIds;
+use crate::stream::kinds::{
+    Datagram, Malformation, RedStream, Retransmission, again_kind, is_among, is_other,
+    is_padding_only, is_sent_again, media_kind, red_again_kind, red_again_of, red_kind, under,
+};
 use crate::stream::parsed::ParsedDatagram;
-use crate::stream::receiver::Retransmission;
-use crate::stream::reports::ReceptionStatistics;
+use crate::stream::statistics::ReceptionStatistics;
 use crate::wire::Ticks;
 use alloc::vec::Vec;
-
-/// The reason why a datagram is malformed.
-#[derive(Clone, Copy, Debug)]
-pub(crate) enum Malformation {
-    /// It is not an RTP packet.
-    Rtp(RtpError),
-    /// The payload of a RED packet is not valid RED.
-    Red,
-    /// The payload of a retransmission ends inside the original sequence number.
-    Retransmission,
-}
-
-/// A RED packet. A retransmitted one has the original sequence number and SSRC in its header.
-#[derive(Debug)]
-pub(crate) struct RedPacket<'a> {
-    pub(crate) header: PacketHeader<'a>,
-    pub(crate) receiver: RedReceiver,
-    pub(crate) primary: RedBlock<'a>,
-    pub(crate) older: Vec<RedBlock<'a>>,
-}
-
-/// A retransmission (RFC 4588, section 4).
-#[derive(Clone, Copy, Debug)]
-pub(crate) struct SentAgain<'a> {
-    /// The header of the retransmission.
-    pub(crate) header: PacketHeader<'a>,
-    /// The original sequence number.
-    pub(crate) number: u16,
-    /// The original SSRC.
-    pub(crate) ssrc: u32,
-    /// The original payload.
-    pub(crate) payload: &'a [u8],
-}
-
-/// What a datagram is, as one stream sees it.
-#[derive(Debug)]
-pub(crate) enum Datagram<'a> {
-    Rtcp,
-    Malformed(Malformation),
-    OtherStream,
-    NoMedia(RtpPacket<'a>),
-    Media(RtpPacket<'a>),
-    Red(RedPacket<'a>),
-    SentAgain(SentAgain<'a>),
-    /// A retransmission of a RED packet.
-    RedAgain(RedPacket<'a>),
-    /// A retransmission without payload.
-    Nothing,
-}
-
-/// How a stream uses RED.
-#[derive(Clone, Copy, Debug)]
-pub(crate) struct RedStream {
-    pub(crate) payload_type: u8,
-    pub(crate) receiver: RedReceiver,
-    /// The payload type of retransmitted RED packets.
-    pub(crate) retransmission: Option<u8>,
-}
 
 /// The settings by which a stream recognises its datagrams.
 #[derive(Debug)]
@@ -78,167 +23,6 @@ pub(crate) struct StreamKinds {
     pub(crate) retransmission: Option<Retransmission>,
     pub(crate) ids: ExtensionIds,
     pub(crate) payload_type: u8,
-}
-
-/// Returns whether the payload type is in the list.
-fn is_among(payload_type: u8, types: &[u8]) -> bool {
-    for t in types {
-        if *t == payload_type {
-            return true;
-        }
-    }
-    false
-}
-
-/// Returns whether `ssrc` differs from the known SSRC.
-fn is_other(known: Option<u32>, ssrc: u32) -> bool {
-    match known {
-        Some(known) => known != ssrc,
-        None => false,
-    }
-}
-
-/// Returns whether the packet is a retransmission.
-fn is_sent_again(retransmission: Option<Retransmission>, header: &PacketHeader<'_>) -> bool {
-    match retransmission {
-        Some(it) => it.ssrc == header.ssrc && it.payload_type == header.payload_type,
-        None => false,
-    }
-}
-
-/// Returns the retransmission settings with this SSRC, if one is given.
-fn under(retransmission: Option<Retransmission>, ssrc: Option<u32>) -> Option<Retransmission> {
-    match (retransmission, ssrc) {
-        (Some(it), Some(ssrc)) => Some(Retransmission { ssrc, ..it }),
-        _ => retransmission,
-    }
-}
-
-/// Returns whether the packet has padding only.
-fn is_padding_only(packet: &RtpPacket<'_>) -> bool {
-    0 < packet.padding && packet.payload.is_empty()
-}
-
-/// Sorts a packet with a payload type of the stream.
-#[inline(always)]
-fn media_kind<'a>(packet: RtpPacket<'a>) -> Datagram<'a> {
-    if is_padding_only(&packet) {
-        Datagram::NoMedia(packet)
-    } else {
-        Datagram::Media(packet)
-    }
-}
-
-/// Returns the SSRC of the stream, or the SSRC of the packet if the stream's is unknown.
-fn ssrc_or(known: Option<u32>, ssrc: u32) -> u32 {
-    match known {
-        Some(known) => known,
-        None => ssrc,
-    }
-}
-
-/// Sorts a retransmission.
-fn again_kind<'a>(known: Option<u32>, packet: RtpPacket<'a>) -> Datagram<'a> {
-    match packet.payload {
-        [] => Datagram::Nothing,
-        [_] => Datagram::Malformed(Malformation::Retransmission),
-        [high, low, payload @ ..] => Datagram::SentAgain(SentAgain {
-            header: packet.header,
-            number: u16::from(*high) * 256 + u16::from(*low),
-            ssrc: ssrc_or(known, packet.header.ssrc),
-            payload,
-        }),
-    }
-}
-
-/// Sorts a RED packet.
-fn red_kind<'a>(receiver: RedReceiver, packet: RtpPacket<'a>) -> Result<Datagram<'a>, PacketError> {
-    if is_padding_only(&packet) {
-        return Ok(Datagram::NoMedia(packet));
-    }
-    let Some(red) = read_red(receiver, packet.header, packet.payload)? else {
-        return Ok(Datagram::Malformed(Malformation::Red));
-    };
-    Ok(Datagram::Red(red))
-}
-
-/// Reads the blocks of a RED payload, for a packet with this header. Returns `None` if it is not valid RED.
-fn read_red<'a>(
-    receiver: RedReceiver,
-    header: PacketHeader<'a>,
-    payload: &'a [u8],
-) -> Result<Option<RedPacket<'a>>, PacketError> {
-    let mut blocks = match RedDecoder::decode(payload) {
-        Ok(blocks) => blocks,
-        Err(PacketError::OutOfMemory) => return Err(PacketError::OutOfMemory),
-        Err(_) => return Ok(None),
-    };
-    let Some(primary) = blocks.pop() else {
-        return Ok(None);
-    };
-    Ok(Some(RedPacket {
-        header,
-        receiver,
-        primary,
-        older: blocks,
-    }))
-}
-
-/// Returns whether this payload type is given.
-fn is_the_type(given: Option<u8>, payload_type: u8) -> bool {
-    match given {
-        Some(own) => own == payload_type,
-        None => false,
-    }
-}
-
-/// Returns the RED receiver for retransmitted RED packets, if the packet is one.
-fn red_again_of(
-    retransmission: Option<Retransmission>,
-    red: Option<RedStream>,
-    header: &PacketHeader<'_>,
-) -> Option<RedReceiver> {
-    match (retransmission, red) {
-        (Some(it), Some(red))
-            if it.ssrc == header.ssrc && is_the_type(red.retransmission, header.payload_type) =>
-        {
-            Some(red.receiver)
-        }
-        _ => None,
-    }
-}
-
-/// Returns the header of the original packet of a retransmission, which has this number.
-fn repeated_header<'a>(
-    known: Option<u32>,
-    header: PacketHeader<'a>,
-    number: u16,
-) -> PacketHeader<'a> {
-    PacketHeader {
-        sequence_number: number,
-        ssrc: ssrc_or(known, header.ssrc),
-        ..header
-    }
-}
-
-/// Sorts a retransmission of a RED packet: the RED payload comes after the original number.
-fn red_again_kind<'a>(
-    receiver: RedReceiver,
-    known: Option<u32>,
-    packet: RtpPacket<'a>,
-) -> Result<Datagram<'a>, PacketError> {
-    match packet.payload {
-        [] => Ok(Datagram::Nothing),
-        [_] => Ok(Datagram::Malformed(Malformation::Retransmission)),
-        [high, low, payload @ ..] => {
-            let number = u16::from(*high) * 256 + u16::from(*low);
-            let header = repeated_header(known, packet.header, number);
-            match read_red(receiver, header, payload)? {
-                Some(red) => Ok(Datagram::RedAgain(red)),
-                None => Ok(Datagram::Malformed(Malformation::Red)),
-            }
-        }
-    }
 }
 
 impl StreamKinds {

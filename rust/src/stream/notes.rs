@@ -13,8 +13,9 @@ use crate::keyframes::unit_gate::FromKeyframe;
 use crate::memory::{AllocError, One};
 use crate::rtp::packet::HeaderExtension;
 use crate::rtp::values::extension_value;
-use crate::stream::datagram::{Datagram, RedPacket, StreamKinds};
+use crate::stream::datagram::StreamKinds;
 use crate::stream::gated::video_codec_of;
+use crate::stream::kinds::{Datagram, RedPacket};
 use crate::stream::receiver::ReceiverSettings;
 use crate::wire::Codec;
 
@@ -256,21 +257,22 @@ pub(crate) fn take_notes(
     }
 }
 
-/// Does the same for an answer whose unit is in memory that is used again.
+/// Does the same for an answer whose unit is in memory that is used again, and writes what it refers to.
 #[inline(always)]
 pub(crate) fn take_notes_in(
     notes: &mut Option<StreamNotes>,
     answer: &Option<Result<(), PacketError>>,
     unit: &PoppedUnit,
-) -> UnitReferences {
+    references: &mut UnitReferences,
+) {
     let Some(notes) = notes else {
-        return UnitReferences::none();
+        return;
     };
     match answer {
         Some(Ok(())) => {
             let range = unit.seq_range();
-            notes.take(range.start().0, range.end().0)
+            *references = notes.take(range.start().0, range.end().0);
         }
-        _ => UnitReferences::none(),
+        _ => {}
     }
 }

@@ -23,8 +23,10 @@ use crate::stream::answers::is_out_of_memory;
 use crate::stream::bound::UnitBound;
 use crate::stream::checks::{packets_at_once, red_of, retransmission_fits};
 use crate::stream::choice::{Choice, Origin, Verdict};
-use crate::stream::datagram::{Datagram, RedStream, StreamKinds};
+use crate::stream::datagram::StreamKinds;
 use crate::stream::gated::gate_for;
+pub use crate::stream::kinds::Retransmission;
+use crate::stream::kinds::{Datagram, RedStream};
 use crate::stream::notes::{StreamNotes, forget_suspect, notes_for};
 use crate::stream::parsed::ParsedDatagram;
 use crate::stream::reports::{ReceptionReport, ReceptionStatistics};
@@ -45,14 +47,6 @@ pub struct RedSettings {
     /// of RED. Their SSRC is that of [`ReceiverSettings::retransmission`], and without such settings there are none. It differs from all
     /// other payload types of the settings. `None`: retransmitted RED is not read.
     pub retransmission: Option<u8>,
-}
-
-/// The SSRC and payload type of retransmissions (RFC 4588).
-#[derive(Clone, Copy, Debug, PartialEq, Eq)]
-pub struct Retransmission {
-    pub ssrc: u32,
-    /// The payload type of retransmissions, 0 to 127.
-    pub payload_type: u8,
 }
 
 /// The settings of a receiver.

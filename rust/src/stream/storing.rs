@@ -9,7 +9,8 @@ use crate::memory::AllocError;
 use crate::rtp::packet::{PacketHeader, RtpPacket};
 use crate::stream::blocks::{BlockCopy, copy_blocks, recover_all};
 use crate::stream::brought::Brought;
-use crate::stream::datagram::{Datagram, StreamKinds};
+use crate::stream::datagram::StreamKinds;
+use crate::stream::kinds::Datagram;
 use crate::stream::seen_times::{LazySeenTimes, SeenTime, SeenTimes};
 use crate::wire::{Pt, RtpHeader, Ticks};
 use alloc::collections::VecDeque;
@@ -171,6 +172,18 @@ impl StreamKinds {
         if self.red.is_none() {
             return self.push(packets, now, &packet.header, packet.payload, false);
         }
+        self.take_with_red(packets, seen, now, packet)
+    }
+
+    /// Does the same for a stream with RED. The large value is made out of the way of others.
+    #[inline(never)]
+    fn take_with_red<B: Depacketizer>(
+        &self,
+        packets: &mut JitterBuffer<B>,
+        seen: &mut LazySeenTimes,
+        now: Ticks,
+        packet: &RtpPacket<'_>,
+    ) -> Result<Outcome, AllocError> {
         let taken = self.store_alone(packets, seen, now, &Brought::first(packet, true))?;
         Ok(taken.outcome)
     }

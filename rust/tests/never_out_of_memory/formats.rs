@@ -55,9 +55,9 @@ pub const CALLS: [Call; 18] = [
     Call(
         &[
             "DepacketizingBuffer::store",
-            "DepacketizingBuffer::pop_into",
+            "DepacketizingBuffer::pop_unit",
         ],
-        buffer_into,
+        buffer_unit,
     ),
     Call(
         &[
@@ -66,7 +66,6 @@ pub const CALLS: [Call; 18] = [
             "DepacketizingBuffer::store_two",
             "DepacketizingBuffer::pop_unit",
             "DepacketizingBuffer::pop_counted",
-            "DepacketizingBuffer::pop_counted_into",
             "DepacketizingBuffer::pop_unit_counted",
         ],
         buffer_counted,
@@ -76,7 +75,7 @@ pub const CALLS: [Call; 18] = [
         &[
             "JitterBuffer::copy_of",
             "JitterBuffer::push_packed",
-            "JitterBuffer::pop_into",
+            "JitterBuffer::pop_unit",
         ],
         jitter_packed,
     ),
@@ -176,7 +175,7 @@ fn packetize_into(size: usize) {
     }
 }
 
-/// A format of a caller's own: a packet for each frame.
+/// A custom format: a packet for each frame.
 #[derive(Debug)]
 struct Whole;
 
@@ -391,14 +390,14 @@ fn buffer(size: usize) {
     }
 }
 
-fn buffer_into(size: usize) {
-    let (mut buffer, mut bytes, mut metas) = (empty(size), Vec::new(), Vec::new());
+fn buffer_unit(size: usize) {
+    let (mut buffer, mut unit) = (empty(size), PoppedUnit::new());
     for number in (0..packets(size)).rev() {
         made(buffer.store(meta(2 * number, true), vec![1; size.min(1_500)]));
     }
     buffer.set_hold_back(0);
-    while let Some(unit) = buffer.pop_into(&mut bytes, &mut metas) {
-        made(unit);
+    while let Some(popped) = buffer.pop_unit(&mut unit) {
+        made(popped);
     }
 }
 
@@ -417,8 +416,6 @@ fn buffer_counted(size: usize) {
     buffer.set_hold_back(0);
     for _ in 0..3 {
         let _ = buffer.pop_counted().0.map(made);
-        let (mut bytes, mut metas) = (Vec::new(), Vec::new());
-        let _ = buffer.pop_counted_into(&mut bytes, &mut metas).0.map(made);
         let _ = buffer.pop_unit_counted(&mut unit).0.map(made);
     }
     while let Some(unit) = buffer.pop_unit(&mut unit) {
@@ -473,15 +470,15 @@ fn jitter(size: usize) {
 }
 
 fn jitter_packed(size: usize) {
-    let (mut buffer, mut bytes, mut metas) = (jitters(size), Vec::new(), Vec::new());
+    let (mut buffer, mut unit) = (jitters(size), PoppedUnit::new());
     for number in numbers(size) {
         let packed = made(PackedHeader::new(&header(number)));
         let payload = made(buffer.copy_of(&vec![1; size.min(1_500)]));
         made(buffer.push_packed(Ticks(0), packed, payload));
     }
     buffer.finish();
-    while let Some(unit) = buffer.pop_into(Ticks(9), &mut bytes, &mut metas) {
-        made(unit);
+    while let Some(popped) = buffer.pop_unit(Ticks(9), &mut unit) {
+        made(popped);
     }
 }
 
@@ -541,7 +538,7 @@ fn av1c(size: usize) {
     made(write_av1c(&header, &vec![0x0a; size], &mut vec![0; size]));
 }
 
-/// Descriptors with a structure of 1 to 64 templates without decode targets of their own, and bytes that are none.
+/// Descriptors with a structure of 1 to 64 templates that add no decode targets, and bytes that are not a descriptor.
 fn descriptors(size: usize) {
     // A structure of one decode target; each template is of the same layer, and the last one ends the list.
     let templates = size.clamp(1, 64);

@@ -84,7 +84,7 @@ fn chromium() {
     assert!(settings.feedback.is_none());
 }
 
-/// The descriptor has an id in each section of its own; here in one of two.
+/// The descriptor has an id in each section that lists it; here in one of two.
 #[test]
 fn descriptors() {
     let text = include_str!("../../../c/tests/sdp/layers.sdp");

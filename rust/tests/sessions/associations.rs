@@ -254,7 +254,7 @@ fn the_clock_of_a_sender() -> Result<(), Fail> {
     Ok(())
 }
 
-/// A sender of video over a network that loses 5 % and takes 40 ms. It answers each NACK under an SSRC of its own.
+/// A sender of video over a network that loses 5 % and takes 40 ms. It answers each NACK under another SSRC.
 struct Sending {
     ssrc: u32,
     number: u16,

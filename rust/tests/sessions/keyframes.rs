@@ -90,7 +90,7 @@ fn viewers_share_one_limit() -> Result<(), Fail> {
     Ok(())
 }
 
-/// The session's own PLI at 20 ms, for a frame that was given up, is in the limit too.
+/// The session's own PLI at 20 ms, for a frame that was discarded, is in the limit too.
 #[test]
 fn the_sessions_own_requests_count() -> Result<(), Fail> {
     let mut session = playing(|s| s.formats[0].nack = false)?;
@@ -134,7 +134,7 @@ fn a_keyframe_answers_what_waits() -> Result<(), Fail> {
     Ok(())
 }
 
-/// A PLI that is lost is sent again as long as the caller asks: at 0, 500, 1,000 and 1,500 ms, and not after the keyframe of 1,600 ms.
+/// A PLI that is lost is repeated as long as the caller asks: at 0, 500, 1,000 and 1,500 ms, and not after the keyframe of 1,600 ms.
 #[test]
 fn it_can_be_called_each_time() -> Result<(), Fail> {
     let mut session = playing(|_| {})?;

@@ -1,4 +1,4 @@
-//! The names of streams in header extensions: which packets set them, which values count, and when a session tells them.
+//! The names of streams in header extensions: which packets set them, which values count, and when a session reports them.
 
 use crate::datagrams::*;
 use crate::{Fail, allocations};
@@ -193,7 +193,7 @@ fn names_are_bytes() {
     );
 }
 
-/// A sender that begins anew under another SSRC has the names of the stream that it had.
+/// A sender that begins again under another SSRC has the names of the stream that it had.
 #[test]
 fn a_new_ssrc_of_a_known_sender() -> Result<(), Fail> {
     let mut session = session(|it| it.probation = 1);

@@ -151,8 +151,8 @@ fn pairs_at_the_edge() -> Result<(), Fail> {
     Ok(())
 }
 
-/// Video in RED (RFC 2198), as Chromium and GStreamer send it with error correction: a retransmission of RED has a payload type of its
-/// own, whose `apt` is RED's. It goes to the stream as the RED packet that was lost, as the retransmission of the media itself does.
+/// Video in RED (RFC 2198), as Chromium and GStreamer send it with error correction: a retransmission of RED has another payload
+/// type, whose `apt` is RED's. It goes to the stream as the RED packet that was lost, as the retransmission of the media itself does.
 #[test]
 fn retransmissions_of_red() -> Result<(), Fail> {
     let text = include_str!("../../../c/tests/sdp/gstreamer.sdp");

@@ -212,7 +212,7 @@ fn other_datagrams_do_not_wait() -> Result<(), Fail> {
     Ok(())
 }
 
-/// A format of telephone events is a stream of its own.
+/// A format of telephone events is a separate stream.
 #[test]
 fn a_format_of_telephone_events() -> Result<(), Fail> {
     let mut settings = SessionSettings::live();

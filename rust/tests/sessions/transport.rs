@@ -234,7 +234,7 @@ fn other_events_come_first() -> Result<(), Fail> {
     Ok(())
 }
 
-/// Numbers behind the window are ignored until the log is told to begin anew.
+/// Numbers behind the window are ignored until the log begins again by a call.
 #[test]
 fn a_transport_begins_anew() -> Result<(), Fail> {
     let mut session = session(|_, _| {});

@@ -6,7 +6,7 @@ use codec_payload::session::*;
 use codec_payload::waiting::AdaptiveWaitSettings;
 use codec_payload::*;
 
-/// A session of Opus without requests of its own and of VP8 with them, whose streams wait so.
+/// A session of Opus without requests and of VP8 with requests, whose streams wait so.
 fn session(wait: Waiting) -> Session {
     session_within(wait, AdaptiveWaitSettings::live())
 }
@@ -93,7 +93,7 @@ fn waiting_follows_late_packets() -> Result<(), Fail> {
     Ok(())
 }
 
-/// A packet that comes after its frame was given up counts too, or the limit would never rise again.
+/// A packet that comes after its frame was discarded counts too, or the limit would never rise again.
 #[test]
 fn packets_that_come_too_late_count() -> Result<(), Fail> {
     let settings = AdaptiveWaitSettings {

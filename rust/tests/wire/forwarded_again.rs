@@ -125,8 +125,8 @@ fn popped_in(run: &StoreRun) -> Result<Vec<u8>, Fail> {
     Ok(popped)
 }
 
-/// All frames come out, since each lost datagram was in the store.
-fn all_come_out(again: Option<RetransmissionStream>) -> Result<StoreRun, Fail> {
+/// All frames are released, since each lost datagram was in the store.
+fn all_are_released(again: Option<RetransmissionStream>) -> Result<StoreRun, Fail> {
     let mut link = link_of(again)?;
     let run = run_forwarded_with_store(&mut link, &samples(), &steps_from(0))?;
     let all: Vec<u8> = (0..FRAMES).flat_map(frame_of).collect();
@@ -136,7 +136,7 @@ fn all_come_out(again: Option<RetransmissionStream>) -> Result<StoreRun, Fail> {
 
 #[test]
 fn lost_datagrams_come_again_as_they_were() -> Result<(), Fail> {
-    let run = all_come_out(None)?;
+    let run = all_are_released(None)?;
     let found = run.found.iter().filter(|found| **found).count();
     assert_eq!((found, run.again.len()), (27, 27));
     // The last lost datagram was requested first.
@@ -146,7 +146,7 @@ fn lost_datagrams_come_again_as_they_were() -> Result<(), Fail> {
 
 #[test]
 fn lost_datagrams_come_again_as_retransmissions() -> Result<(), Fail> {
-    let run = all_come_out(Some(AGAIN))?;
+    let run = all_are_released(Some(AGAIN))?;
     assert_eq!(run.again.len(), 27);
     let sent = RtpPacket::parse(&run.run.written[79])?;
     let got = RtpPacket::parse(&run.again[0])?;

@@ -3,44 +3,18 @@
 //! datagrams came over both hops.
 
 use crate::Fail;
-use crate::forwarded::{BLOCKS, Schedule, link_with, popped_in, schedule_of};
-use crate::sides::{sample_of, sender_settings};
-use codec_payload::codec::{CodecPacketizer, NoBox};
+use crate::forwarded::{BLOCKS, Schedule, popped_in, schedule_of};
+use crate::with_ids::{FIRST_IDS, frame_of, link_from, samples};
 use codec_payload::rtp::RtpPacket;
 use codec_payload::schedule::forwarded::{ForwardedRun, run_forwarded};
-use codec_payload::sender::{Sender, SenderSettings};
-use codec_payload::vp8::Vp8Packetizer;
-use codec_payload::wire::{Codec, ToPayload};
-
-/// First ids: the ids begin in one byte and go on in two, wrap, or stay in two bytes.
-const FIRST_IDS: [u16; 4] = [0, 100, 300, 32_700];
-
-/// The frame with that index. A payload has at most seven bytes, of which three or four are the descriptor: two datagrams.
-fn frame_of(index: usize) -> [u8; 5] {
-    let [high, low] = (index as u16).to_be_bytes();
-    [u8::from(!index.is_multiple_of(8)), 0xa5, high, low, 0x5a]
-}
-
-fn samples() -> Vec<ToPayload> {
-    let frames = 0..BLOCKS * 8;
-    frames
-        .map(|index| sample_of(index as u64 * 3_000, &frame_of(index)))
-        .collect()
-}
-
-/// A sender whose first frame has this picture id.
-fn sender_from(id: u16) -> Result<Sender<NoBox>, Fail> {
-    let settings = SenderSettings {
-        mtu: 7,
-        ..sender_settings()?
-    };
-    let pack = CodecPacketizer::Vp8(Vp8Packetizer::with_picture_id(id));
-    Ok(Sender::new(pack, settings).map_err(|_| "settings out of range")?)
-}
 
 fn run_of(id: u16, schedule: &Schedule) -> Result<ForwardedRun, Fail> {
-    let mut link = link_with(Codec::Vp8, sender_from(id)?)?;
-    Ok(run_forwarded(&mut link, &samples(), &schedule.steps)?)
+    let mut link = link_from(id)?;
+    Ok(run_forwarded(
+        &mut link,
+        &samples(BLOCKS * 8),
+        &schedule.steps,
+    )?)
 }
 
 /// The payload of that frame's first or second datagram: X and S or X alone, I alone, and the id in one or two bytes (RFC 7741,

@@ -1,53 +1,26 @@
 //! A forwarder that leaves each second frame of VP8 with picture ids out. The frames that it leaves out come to it whole and in
 //! order; the others are lost and repeated on both hops, and reordered on the second. The viewer's numbers and ids have no gaps, and
-//! all other frames whose datagrams came over both hops come out.
+//! all other frames whose datagrams came over both hops are released.
 
 use crate::Fail;
-use crate::forwarded::{copies, following, link_with, popped_in};
-use crate::sides::{sample_of, sender_settings};
-use codec_payload::codec::{CodecPacketizer, NoBox};
+use crate::forwarded::{copies, following, popped_in};
+use crate::with_ids::{FIRST_IDS, frame_of, link_from, samples};
 use codec_payload::forward::Forwarded;
 use codec_payload::rtp::RtpPacket;
 use codec_payload::schedule::forwarded::{
     ForwardStep, ForwardedRun, LeaveStep, run_forwarded_leaving_out,
 };
-use codec_payload::sender::{Sender, SenderSettings};
-use codec_payload::vp8::Vp8Packetizer;
-use codec_payload::wire::{Codec, Ticks, ToPayload};
+use codec_payload::wire::Ticks;
 
-/// How many frames there are. Each has two datagrams, and each eighth is a keyframe.
+/// How many frames there are.
 const FRAMES: usize = 200;
-
-/// First ids: the ids begin in one byte and go on in two, wrap, or stay in two bytes.
-const FIRST_IDS: [u16; 4] = [0, 100, 300, 32_700];
-
-fn frame_of(index: usize) -> [u8; 5] {
-    let [high, low] = (index as u16).to_be_bytes();
-    [u8::from(!index.is_multiple_of(8)), 0xa5, high, low, 0x5a]
-}
-
-fn samples() -> Vec<ToPayload> {
-    let frames = 0..FRAMES;
-    frames
-        .map(|index| sample_of(index as u64 * 3_000, &frame_of(index)))
-        .collect()
-}
-
-fn sender_from(id: u16) -> Result<Sender<NoBox>, Fail> {
-    let settings = SenderSettings {
-        mtu: 7,
-        ..sender_settings()?
-    };
-    let pack = CodecPacketizer::Vp8(Vp8Packetizer::with_picture_id(id));
-    Ok(Sender::new(pack, settings).map_err(|_| "settings out of range")?)
-}
 
 /// The frames with an odd index are left out.
 fn is_left_out(datagram: usize) -> bool {
     !(datagram / 2).is_multiple_of(2)
 }
 
-/// The steps, and what becomes of each datagram.
+/// The steps, and the outcome of each datagram.
 struct Schedule {
     steps: Vec<LeaveStep>,
     /// Which datagram each written one is.
@@ -125,10 +98,10 @@ fn schedule_of(mut seed: u32) -> Schedule {
 }
 
 fn run_of(id: u16, schedule: &Schedule) -> Result<ForwardedRun, Fail> {
-    let mut link = link_with(Codec::Vp8, sender_from(id)?)?;
+    let mut link = link_from(id)?;
     Ok(run_forwarded_leaving_out(
         &mut link,
-        &samples(),
+        &samples(FRAMES),
         &schedule.steps,
     )?)
 }

@@ -14,6 +14,7 @@ mod restarted;
 mod rows;
 mod served;
 mod sides;
+mod with_ids;
 
 /// Why a test fails.
 pub type Fail = Box<dyn std::error::Error>;

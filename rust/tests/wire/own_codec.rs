@@ -137,10 +137,10 @@ fn jitter_buffer_asks_a_custom_depacketizer() -> Result<(), Fail> {
     assert_eq!(bytes_of(packets.pop(Ticks(0))).as_deref(), Some(UNITS[0]));
     assert_eq!(*read.borrow(), PAYLOADS[..3]);
 
-    let (mut bytes, mut metas) = (Vec::new(), Vec::new());
-    let info = packets.pop_into(Ticks(0), &mut bytes, &mut metas);
-    assert!(matches!(info, Some(Ok(_))));
-    assert_eq!((bytes.as_slice(), metas.len()), (UNITS[1], 1));
+    let mut unit = PoppedUnit::new();
+    let popped = packets.pop_unit(Ticks(0), &mut unit);
+    assert!(matches!(popped, Some(Ok(()))));
+    assert_eq!((unit.bytes.as_slice(), unit.packets()), (UNITS[1], 1));
     assert_eq!(*read.borrow(), PAYLOADS);
     assert!(packets.pop(Ticks(0)).is_none());
     assert_eq!(read.borrow().len(), 4);

@@ -1,10 +1,10 @@
 //! A packet in the queue of a buffer.
 
 ghost use Rattle.std.specs.Prelude.{◌≡◌, Option, if◌then◌else◌, true};
-ghost use Rattle.codec_payload_buffer.specs.Rare.{plain_meta};
+ghost use Rattle.codec_payload_metadata.specs.Rare.{plain_meta};
 
-use super::known::PackedMeta;
-use super::unit::RtpMeta;
+use codec_payload_metadata::known::PackedMeta;
+use codec_payload_metadata::meta::RtpMeta;
 use std::mem::size_of;
 
 /// An entry of the queue: the number of a held packet, and a pointer to the rest.

@@ -6,10 +6,11 @@ ghost use Rattle.codec_payload_codec.specs.Depacketizers.{is_built_in_depacketiz
 ghost use Rattle.codec_payload_buffer.specs.Leaving.{IsWhole, PopsLeaving};
 ghost use Rattle.codec_payload_buffer.specs.Steps.{HasPackets, HasTaken, OwnPops, due_of, popped_into};
 
-use super::unit::{Depacketized, RtpMeta, UnitInfo};
+use super::unit::{Depacketized, UnitInfo};
 use super::{DepacketizingBuffer, unit_of};
 use codec_payload_base::error::PacketError;
 use codec_payload_codec::codec::Depacketizer;
+use codec_payload_metadata::meta::RtpMeta;
 
 /// How many packets left the buffer in a pop without being released in a unit, by the reason.
 #[derive(Clone, Copy, Debug, PartialEq, Eq)]
@@ -46,9 +47,11 @@ impl<B: Depacketizer> DepacketizingBuffer<B> {
         }
     }
 
-    /// Does the same as [`DepacketizingBuffer::pop_into`], and returns how many packets left the buffer without being
-    /// released. Packets that were evicted by a push are not among them.
-    pub fn pop_counted_into(
+    /// Does the same as [`DepacketizingBuffer::pop_counted`], and writes to the caller's memory, which can be reused. If it
+    /// returns a unit, `bytes` holds the bytes of the unit and `metas` the metadata of its packets in order of their numbers;
+    /// earlier contents are replaced. In every other case the contents of both are unspecified. Allocates only if the capacity
+    /// of `bytes` or `metas` is too small.
+    fn pop_counted_into(
         &mut self,
         bytes: &mut Vec<u8>,
         metas: &mut Vec<RtpMeta>,

@@ -15,13 +15,13 @@ use super::DepacketizingBuffer;
 use super::ends::{evict, place_at, row_with};
 use super::frames::{CompleteFrame, frame_of, mend_first, note};
 use super::held_packet::{HeldPacket, Packet};
-use super::known::PackedMeta;
 use super::packets::{find_place, hold, is_at, is_too_late};
 use super::placed::{Placed, placed_among};
 use super::rows::row_of_packet;
-use super::unit::RtpMeta;
 use codec_payload_base::error::PacketError;
 use codec_payload_codec::codec::{CodecDepacketizer, Depacketizer};
+use codec_payload_metadata::known::PackedMeta;
+use codec_payload_metadata::meta::RtpMeta;
 use codec_payload_queue::tiers::TieredQueue;
 use std::alloc::Global;
 

@@ -2,14 +2,14 @@
 
 ghost use Rattle.std.specs.Prelude.{◌≡◌, ◌<◌, ◌⊎◌, [], length, false, slice_get, Option};
 ghost use Rattle.std.specs.Range.{range_inclusive_start, range_inclusive_end, range_inclusive_exhausted};
-ghost use Rattle.codec_payload_buffer.specs.Release.{AreValues, IsFirst, IsLast, IsReceivedFirst, released_none};
-ghost use Rattle.codec_payload_buffer.specs.declared.buffer.unit.RtpMeta.{RtpMeta as Meta};
+ghost use Rattle.codec_payload_metadata.specs.Release.{AreValues, IsFirst, IsLast, IsReceivedFirst, released_none};
+ghost use Rattle.codec_payload_metadata.specs.declared.meta.RtpMeta.{RtpMeta as Meta};
 
-use super::known::PackedMeta;
 use super::popped_packets::{PoppedPackets, values_among};
-use super::unit::RtpMeta;
 use codec_payload_base::interface::CodecExtra;
 use codec_payload_base::wire::{ExtensionValues, MediaTime, SenderInfo, SeqNo, Ticks};
+use codec_payload_metadata::known::PackedMeta;
+use codec_payload_metadata::meta::RtpMeta;
 use std::alloc::Global;
 use std::marker::Model;
 use std::mem;
@@ -33,7 +33,7 @@ pub struct PoppedUnit {
 }
 
 impl Model for PoppedUnit {
-    ghost use Rattle.codec_payload_buffer.specs.Release.{Release};
+    ghost use Rattle.codec_payload_metadata.specs.Release.{Release};
 
     ghost Value = { Release };
 

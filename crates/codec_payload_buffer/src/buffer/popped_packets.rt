@@ -1,10 +1,10 @@
 //! The metadata of the packets of a popped unit, apart from its bytes.
 
 ghost use Rattle.std.specs.Prelude.{◌≡◌, ◌<◌, [], length};
-ghost use Rattle.codec_payload_buffer.specs.Release.{AreValues};
+ghost use Rattle.codec_payload_metadata.specs.Release.{AreValues};
 
-use super::known::PackedMeta;
 use codec_payload_base::wire::ExtensionValues;
+use codec_payload_metadata::known::PackedMeta;
 use std::alloc::Global;
 use std::marker::Model;
 
@@ -16,7 +16,7 @@ pub struct PoppedPackets {
 
 impl Model for PoppedPackets {
     ghost use Rattle.std.specs.Prelude.{List};
-    ghost use Rattle.codec_payload_buffer.specs.declared.buffer.unit.RtpMeta.{RtpMeta};
+    ghost use Rattle.codec_payload_metadata.specs.declared.meta.RtpMeta.{RtpMeta};
 
     ghost Value = { List RtpMeta };
 

@@ -9,7 +9,6 @@ ghost use Rattle.codec_payload_buffer.specs.Steps.{HasPacketsIn, HasTaken, OwnPo
 ghost use Rattle.codec_payload_codec.specs.Depacketizers.{is_built_in_depacketizer};
 
 use super::frames::{CompleteFrame, drop_first};
-use super::known::PackedMeta;
 use super::leaving::{Left, left_by, refused_by};
 use super::one_packet::{make_room_for, unpack_frame};
 use super::packets::{frame_range, move_frame, starts_next};
@@ -18,6 +17,7 @@ use super::{DepacketizingBuffer, is_out_of_memory};
 use codec_payload_base::error::PacketError;
 use codec_payload_base::interface::CodecExtra;
 use codec_payload_codec::codec::Depacketizer;
+use codec_payload_metadata::known::PackedMeta;
 
 /// The result for the frame that is due, if the depacketizer accepts its payloads.
 #[derive(Clone, Copy, Debug, PartialEq, Eq)]

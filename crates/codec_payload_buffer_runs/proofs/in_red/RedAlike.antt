@@ -2,7 +2,7 @@
 use Rattle.std.proofs.Common.{◌∙◌, refl, sym, ap, ℕ, Bool, false, List, [], ◌∷◌, map}
 use Rattle.codec_payload_codec.specs.Depacketizers.{DepacketizerKind}
 use Rattle.codec_payload_buffer.specs.Held.{Held}
-use Rattle.codec_payload_buffer.specs.declared.buffer.unit.RtpMeta.{RtpMeta}
+use Rattle.codec_payload_metadata.specs.declared.meta.RtpMeta.{RtpMeta}
 use Rattle.codec_payload_buffer_runs.proofs.order.AlikeLemmas.{chains_same}
 use Rattle.codec_payload_buffer_runs.proofs.in_red.RedLogs as logs
 use Rattle.codec_payload_buffer_runs.proofs.order.SafetyLemmas.{AllSent, fresh_beyond}

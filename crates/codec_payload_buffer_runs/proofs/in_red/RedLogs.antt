@@ -28,7 +28,7 @@ use Rattle.codec_payload_buffer.specs.Held.{has_number}
 use Rattle.codec_payload_codec.specs.Packetizers.{PacketizerState, Vp9Packetizing, is_video, may_split, payloads_by}
 use Rattle.codec_payload_buffer.specs.Steps.{arrived}
 use Rattle.codec_payload_buffer.specs.Stretches.{after_pushes}
-use Rattle.codec_payload_buffer.specs.declared.buffer.unit.RtpMeta.{RtpMeta}
+use Rattle.codec_payload_metadata.specs.declared.meta.RtpMeta.{RtpMeta}
 use Rattle.codec_payload_buffer_runs.specs.Exact.{IsPushedFirst, AnswersAll}
 use Rattle.codec_payload_buffer_runs.specs.Headline.{InOrder}
 use Rattle.codec_payload_buffer_runs.specs.LawfulUnits.{AllLawful}

@@ -11,14 +11,14 @@ use Rattle.codec_payload_codec.specs.Depacketizers.{is_codec, head_in, tail_in}
 use Rattle.codec_payload_buffer.specs.Held.{Held, number_of, has_number, Rises, AllAbove}
 use Rattle.codec_payload_buffer_runs.specs.Log.{Stretch, Turn}
 use Rattle.codec_payload_payloader.specs.Packets.{Packet}
-use Rattle.codec_payload_buffer.specs.Release.{Release}
+use Rattle.codec_payload_metadata.specs.Release.{Release}
 use Rattle.codec_payload_buffer_runs.specs.RunOrder.{numbers_in, release_with, answer_with, PushTheSame}
 use Rattle.codec_payload_buffer_runs.specs.Schedule.{Answer}
 use Rattle.codec_payload_buffer_runs.specs.SentStream.{packets_of}
 use Rattle.codec_payload_buffer.specs.Steps.{State, Releases, Passes, PassesOver, none, one_more, due_of}
 use Rattle.codec_payload_buffer.specs.Stretches.{counts, numbers_from, last_or, is_some_of, left_out, kept}
 use Rattle.codec_payload_buffer.specs.declared.buffer.frames.CompleteFrame.{CompleteFrame}
-use Rattle.codec_payload_buffer.specs.declared.buffer.unit.RtpMeta.{RtpMeta}
+use Rattle.codec_payload_metadata.specs.declared.meta.RtpMeta.{RtpMeta}
 
 filter_same : (p q : ℕ → Bool) (xs : List ℕ) → ((n : ℕ) → p n ≡ q n) → filter p xs ≡ filter q xs
 filter_same p q [] same = refl

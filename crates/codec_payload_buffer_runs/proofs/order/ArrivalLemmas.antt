@@ -7,7 +7,7 @@ use Rattle.codec_payload_buffer.proofs.MemberLemmas.{IsIn, contains_in}
 use Rattle.codec_payload_codec.specs.Depacketizers.{DepacketizerKind, kind_of_depacketizer, tail_in}
 use Rattle.codec_payload_buffer.specs.Held.{Held, number_of, has_number}
 use Rattle.codec_payload_buffer.specs.Steps.{State, arrived, pushed, is_dropped, Pops}
-use Rattle.codec_payload_buffer.specs.declared.buffer.unit.RtpMeta.{RtpMeta}
+use Rattle.codec_payload_metadata.specs.declared.meta.RtpMeta.{RtpMeta}
 use Rattle.codec_payload_buffer_runs.proofs.units.BuiltInRuns.{Runs, plainly, unused_exactly}
 use Rattle.codec_payload_buffer_runs.proofs.order.ChainLemmas.{Exactly, Filling, full_at_pop}
 use Rattle.codec_payload_buffer_runs.proofs.order.ExactLemmas.{MayGo, dropped, pop_answers}

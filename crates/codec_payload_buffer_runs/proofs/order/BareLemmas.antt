@@ -8,15 +8,15 @@ use Rattle.codec_payload_base.specs.declared.interface.CodecExtra.{CodecExtra}
 use Rattle.codec_payload_codec.proofs.CaseLemmas.{by_test}
 use Rattle.codec_payload_buffer.proofs.DepacketizerLemmas.{unpacks_same}
 use Rattle.codec_payload_buffer.proofs.PopLemmas.{due_packets}
-use Rattle.codec_payload_buffer.specs.ContiguityTable.{checked}
+use Rattle.codec_payload_contiguity.specs.ContiguityTable.{checked}
 use Rattle.codec_payload_codec.specs.Depacketizers.{DepacketizerState, is_built_in_depacketizer}
 use Rattle.codec_payload_buffer.specs.Frames.{frames, frames_after, frame_at, ended_at, lowest_head, row_before, leads_to, start_or_here}
 use Rattle.codec_payload_buffer.specs.Held.{Held, number_of, has_number, between, above, Rises}
-use Rattle.codec_payload_buffer.specs.Release.{Release}
+use Rattle.codec_payload_metadata.specs.Release.{Release}
 use Rattle.codec_payload_buffer_runs.specs.RunOrder.{release_with}
 use Rattle.codec_payload_buffer.specs.Steps.{State, Releases, PassesOver, due_of, due_among, Unpacked, Unpacks, nothing_unpacked, Gives, AllOfTime, metas_of, packets_of_frame, without, follows}
 use Rattle.codec_payload_buffer.specs.declared.buffer.frames.CompleteFrame.{CompleteFrame}
-use Rattle.codec_payload_buffer.specs.declared.buffer.unit.RtpMeta.{RtpMeta}
+use Rattle.codec_payload_metadata.specs.declared.meta.RtpMeta.{RtpMeta}
 
 -- the metadata of a packet without its receive time and, if it is not plain, without its marker and its values
 abbrev pub strip : Bool → RtpMeta → RtpMeta

@@ -13,13 +13,13 @@ use Rattle.codec_payload_buffer_runs.proofs.order.SafetyLemmas.{number_at, befor
 use Rattle.codec_payload_buffer_runs.proofs.order.TakenLemmas.{Follows, IsNear, goes_on, stays_near}
 use Rattle.codec_payload_buffer_runs.proofs.order.TurnLemmas.{Setting, Beyond, frame_due, count, IsSpan, IsPop, waits, releases, Chain, IsReady, span_left, span_ready, few_released, left_ready}
 use Rattle.codec_payload_buffer_runs.proofs.order.WholeLemmas.{some_packets}
-use Rattle.codec_payload_buffer.specs.ContiguityTable.{checked}
+use Rattle.codec_payload_contiguity.specs.ContiguityTable.{checked}
 use Rattle.codec_payload_codec.specs.Depacketizers.{DepacketizerState}
 use Rattle.codec_payload_buffer.specs.Frames.{frames}
 use Rattle.codec_payload_buffer_runs.specs.Headline.{packets_before, ArePushesBy}
 use Rattle.codec_payload_buffer_runs.specs.Log.{Stretch, Turn}
 use Rattle.codec_payload_payloader.specs.Packets.{Packet}
-use Rattle.codec_payload_buffer.specs.Release.{Release}
+use Rattle.codec_payload_metadata.specs.Release.{Release}
 use Rattle.codec_payload_buffer_runs.specs.RunOrder.{evicted_in, first_number}
 use Rattle.codec_payload_buffer_runs.specs.RunUnits.{IsWholeAt, IsNext, AreNext, FirstIsWhole, NoneEvicted, IsPatient, count_after}
 use Rattle.codec_payload_buffer_runs.specs.Schedule.{Answer}
@@ -27,7 +27,7 @@ use Rattle.codec_payload_buffer_runs.specs.SentStream.{SentUnit, packets_of}
 use Rattle.codec_payload_buffer.specs.Steps.{State, Releases, due_of, due_among, starts_right_after, follows}
 use Rattle.codec_payload_buffer.specs.Stretches.{last_or}
 use Rattle.codec_payload_buffer.specs.declared.buffer.frames.CompleteFrame.{CompleteFrame}
-use Rattle.codec_payload_buffer.specs.declared.buffer.unit.RtpMeta.{RtpMeta}
+use Rattle.codec_payload_metadata.specs.declared.meta.RtpMeta.{RtpMeta}
 
 slice_some : {X : Type 0} (xs : List X) (n p : ℕ) (x : X) → n ≤ p → slice_get xs p ≡ Some x → (y : X) × (slice_get xs n ≡ Some y)
 slice_some [] n p x l h = absurd (cc)

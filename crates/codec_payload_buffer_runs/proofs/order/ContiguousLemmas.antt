@@ -15,7 +15,7 @@ use Rattle.codec_payload_buffer_runs.proofs.order.TakenLemmas.{IsPlain, stays_pl
 use Rattle.codec_payload_buffer_runs.proofs.order.TurnLemmas.{Setting, Beyond, count, IsSpan, IsPop, waits, releases, Chain, IsReady, or_cases, span_left, span_ready, ready_pops, left_ready}
 use Rattle.codec_payload_buffer.specs.Held.{Held, number_of, Rises, AllAbove, IsAboveCutoff, has_number, between}
 use Rattle.codec_payload_buffer_runs.specs.Log.{Stretch, Turn}
-use Rattle.codec_payload_buffer.specs.Release.{Release}
+use Rattle.codec_payload_metadata.specs.Release.{Release}
 use Rattle.codec_payload_buffer_runs.specs.RunOrder.{numbers_in, first_number, last_number, FollowsAsSaid, last_released, has_evicted, AllFollowAsSaid}
 use Rattle.codec_payload_buffer_runs.specs.Schedule.{Answer}
 use Rattle.codec_payload_buffer.specs.Steps.{State, Releases, due_of, follows, starts_right_after, is_at_most, metas_of}

@@ -16,7 +16,7 @@ use Rattle.codec_payload_buffer_runs.proofs.order.SafetyLemmas.{next_after}
 use Rattle.codec_payload_buffer_runs.proofs.units.SendsUnits.{CarryIds}
 use Rattle.codec_payload_buffer_runs.proofs.units.UnitRows.{IsFaithful, Exact, exact_payloads, exact_metas}
 use Rattle.codec_payload_buffer_runs.proofs.units.UnitTimes.{AllOneTime}
-use Rattle.codec_payload_buffer.specs.ContiguityTable.{checked, contiguity_for}
+use Rattle.codec_payload_contiguity.specs.ContiguityTable.{checked, contiguity_for}
 use Rattle.codec_payload_codec.specs.Depacketizers.{DepacketizerState, DepacketizerKind, Vp9Payloads, kind_of_depacketizer}
 use Rattle.codec_payload_buffer_runs.specs.Exact.{IsWhole, AnswersAll}
 use Rattle.codec_payload_buffer.specs.Frames.{frames}
@@ -27,15 +27,15 @@ use Rattle.codec_payload_payloader.specs.Packets.{Packet, AreNumbered}
 use Rattle.codec_payload_base.specs.declared.interface.Vp9PacketizerMode.{Vp9PacketizerMode}
 use Rattle.codec_payload_base.specs.declared.interface.Vp9PacketizerMode.TheVariants.{Flexible, NonFlexible}
 use Rattle.codec_payload_buffer_runs.specs.ReportedIds.{ReadId, Tells, id_in, id_later, next_id, read_by}
-use Rattle.codec_payload_buffer.specs.Release.{Release}
+use Rattle.codec_payload_metadata.specs.Release.{Release}
 use Rattle.codec_payload_buffer_runs.specs.Schedule.{Answer}
 use Rattle.codec_payload_buffer_runs.specs.LawfulUnits.{payloads_held, payloads_sent, AllLawful}
 use Rattle.codec_payload_buffer_runs.specs.SentStream.{SentUnit, packets_of, EndsWithTail, IsReleaseOf}
 use Rattle.codec_payload_buffer.specs.Steps.{State, is_dropped, is_at_most, due_of, due_among, follows, metas_of, packets_of_frame}
 use Rattle.codec_payload_buffer.specs.Steps.{Unpacked, Unpacks, nothing_unpacked, Gives, Pops, PassesOver, Refuses}
 use Rattle.codec_payload_buffer.specs.declared.buffer.frames.CompleteFrame.{CompleteFrame}
-use Rattle.codec_payload_buffer.specs.declared.buffer.unit.RtpMeta.{RtpMeta}
-use Rattle.codec_payload_buffer.specs.declared.contiguity.Contiguity.{Contiguity}
+use Rattle.codec_payload_metadata.specs.declared.meta.RtpMeta.{RtpMeta}
+use Rattle.codec_payload_contiguity.specs.declared.contiguity.Contiguity.{Contiguity}
 
 -- accepted whole and in order from there, each unit may be released
 abbrev pub MayGo : List SentUnit → DepacketizerState → Contiguity → Type 0

@@ -16,7 +16,7 @@ use Rattle.codec_payload_payloader.specs.Packets.{Packet, AreNumbered}
 use Rattle.codec_payload_buffer_runs.specs.LawfulUnits.{AllLawful}
 use Rattle.codec_payload_buffer_runs.specs.SentStream.{SentUnit, packets_of}
 use Rattle.codec_payload_buffer.specs.Steps.{State, pushed, kept_to_limit, is_dropped, is_at_most}
-use Rattle.codec_payload_buffer.specs.declared.buffer.unit.RtpMeta.{RtpMeta}
+use Rattle.codec_payload_metadata.specs.declared.meta.RtpMeta.{RtpMeta}
 
 -- all numbers are at least n
 abbrev pub AllFrom : ℕ → List Held → Type 0

@@ -4,12 +4,12 @@ use Rattle.std.proofs.lemmas.Bool.Decides.{nat_tests}
 use Rattle.codec_payload_base.specs.declared.interface.CodecExtra.{CodecExtra}
 use Rattle.codec_payload_base.specs.declared.interface.CodecExtra.TheVariants as extras
 use Rattle.codec_payload_base.specs.declared.interface.Vp9CodecExtra.{Vp9CodecExtra}
-use Rattle.codec_payload_buffer.specs.ContiguityTable.{both_ids, checked, kept_by, no_ids, verdict, verdict_with, verdict_after}
+use Rattle.codec_payload_contiguity.specs.ContiguityTable.{both_ids, checked, kept_by, no_ids, verdict, verdict_with, verdict_after}
 use Rattle.codec_payload_codec.specs.BaseLayers.{is_absent, lacks_base}
 use Rattle.codec_payload_buffer_runs.specs.ReportedIds.{ReadId, ahead, IsNextId, TellsPicture, Tells, id_later}
-use Rattle.codec_payload_buffer.specs.declared.contiguity.FrameContiguityState.{FrameContiguityState}
-use Rattle.codec_payload_buffer.specs.declared.contiguity.Contiguity.{Contiguity}
-use Rattle.codec_payload_buffer.specs.declared.contiguity.Contiguity.TheVariants as kept
+use Rattle.codec_payload_contiguity.specs.declared.contiguity.FrameContiguityState.{FrameContiguityState}
+use Rattle.codec_payload_contiguity.specs.declared.contiguity.Contiguity.{Contiguity}
+use Rattle.codec_payload_contiguity.specs.declared.contiguity.Contiguity.TheVariants as kept
 
 -- a unit without the id of the base layer may be released, is contiguous if its numbers are, and changes nothing
 verdict_lacks : (s : FrameContiguityState) (picture base layer : Option ℕ) (keyframe seq : Bool) → is_absent base ≡ true → verdict s picture base layer keyframe seq ≡ (true, seq, s)

@@ -12,13 +12,13 @@ use Rattle.codec_payload_buffer_runs.proofs.units.UnitTimes.{HasTime}
 use Rattle.codec_payload_codec.specs.Depacketizers.{DepacketizerKind}
 use Rattle.codec_payload_buffer.specs.Held.{Held}
 use Rattle.codec_payload_payloader.specs.Packets.{Packet, AreNumbered}
-use Rattle.codec_payload_buffer.specs.Release.{Release}
+use Rattle.codec_payload_metadata.specs.Release.{Release}
 use Rattle.codec_payload_buffer_runs.specs.Schedule.{Answer}
 use Rattle.codec_payload_buffer_runs.specs.LawfulUnits.{StartsWithHead}
 use Rattle.codec_payload_buffer_runs.specs.SentStream.{SentUnit, EndsWithTail}
 use Rattle.codec_payload_buffer.specs.Steps.{State, due_of, starts_right_after, Pops, Passes, none, one_more, PassesOver, Releases, Refuses}
 use Rattle.codec_payload_buffer.specs.declared.buffer.frames.CompleteFrame.{CompleteFrame}
-use Rattle.codec_payload_buffer.specs.declared.buffer.unit.RtpMeta.{RtpMeta}
+use Rattle.codec_payload_metadata.specs.declared.meta.RtpMeta.{RtpMeta}
 
 -- no frame is skipped from s on: so none in any number of steps
 pub none_passed : (s t : State) (over : List CompleteFrame) → ((r : State) → PassesOver s r → ⊥) → Passes s over t → t ≡ s

@@ -10,7 +10,7 @@ use Rattle.codec_payload_buffer_runs.proofs.order.TurnLemmas.{Setting, Beyond, f
 use Rattle.codec_payload_codec.specs.Depacketizers.{DepacketizerState}
 use Rattle.codec_payload_buffer_runs.specs.Headline.{packets_before}
 use Rattle.codec_payload_buffer_runs.specs.Log.{Stretch, Turn}
-use Rattle.codec_payload_buffer.specs.Release.{Release}
+use Rattle.codec_payload_metadata.specs.Release.{Release}
 use Rattle.codec_payload_buffer_runs.specs.RunUnits.{NonePassedOver, AllEnd, AnswerEnds, AllTakenEnd, EndsOutside, AllStartFrom, AllPassedFrom, IsGap}
 use Rattle.codec_payload_buffer_runs.specs.Schedule.{Answer}
 use Rattle.codec_payload_buffer_runs.specs.SentStream.{SentUnit, packets_of}

@@ -16,7 +16,7 @@ use Rattle.codec_payload_buffer.specs.Frames.{frames}
 use Rattle.codec_payload_buffer_runs.specs.Headline.{packets_before}
 use Rattle.codec_payload_buffer.specs.Held.{Held, has_number, Rises, above}
 use Rattle.codec_payload_buffer_runs.specs.Log.{Stretch, Turn}
-use Rattle.codec_payload_buffer.specs.Release.{Release}
+use Rattle.codec_payload_metadata.specs.Release.{Release}
 use Rattle.codec_payload_buffer_runs.specs.RunOrder.{numbers_in, evicted_in}
 use Rattle.codec_payload_buffer_runs.specs.RunUnits.{IsNumberIn, IsHeldWhole, IsWholeAt, ReleasesWhole, IsAmong, Fate, released, skipped_over, held, evicted, NoneIsLost}
 use Rattle.codec_payload_buffer.specs.Scan.{first_of}

@@ -25,9 +25,9 @@ use Rattle.codec_payload_buffer_runs.proofs.units.UnitValues.{AreStripped, carri
 use Rattle.codec_payload_base.specs.declared.wire.extension.ExtensionValues.{ExtensionValues}
 use Rattle.codec_payload_codec.specs.Depacketizers.{DepacketizerState, DepacketizerKind, kind_of_depacketizer}
 use Rattle.codec_payload_buffer.specs.Held.{Held, has_number}
-use Rattle.codec_payload_buffer.specs.Release.{AreValues}
+use Rattle.codec_payload_metadata.specs.Release.{AreValues}
 use Rattle.codec_payload_buffer.specs.Steps.{State}
-use Rattle.codec_payload_buffer.specs.declared.buffer.unit.RtpMeta.{RtpMeta}
+use Rattle.codec_payload_metadata.specs.declared.meta.RtpMeta.{RtpMeta}
 use Rattle.codec_payload_buffer_runs.specs.Exact.{IsPushedFirst, AnswersAll, ReleasesUnits}
 use Rattle.codec_payload_buffer_runs.specs.Headline.{IsPushOf, ArePushesBy, InOrder, IsUnused, ReleasesInOrder, packets_before}
 use Rattle.codec_payload_buffer_runs.specs.LawfulUnits.{AllLawful}

@@ -12,10 +12,10 @@ use Rattle.codec_payload_buffer_runs.proofs.order.TurnLemmas.{Setting, Beyond, I
 use Rattle.codec_payload_buffer_runs.proofs.units.UnitIds.{TellId, TellInTurn, tell_in_turn}
 use Rattle.codec_payload_buffer_runs.proofs.units.UnitRows.{IsFaithful}
 use Rattle.codec_payload_buffer_runs.proofs.units.UnitTimes.{AllOneTime, HasTime}
-use Rattle.codec_payload_buffer.specs.ContiguityTable.{contiguity_for}
+use Rattle.codec_payload_contiguity.specs.ContiguityTable.{contiguity_for}
 use Rattle.codec_payload_codec.specs.Depacketizers.{DepacketizerKind}
 use Rattle.codec_payload_buffer.specs.Held.{Held}
-use Rattle.codec_payload_buffer.specs.declared.buffer.unit.RtpMeta.{RtpMeta}
+use Rattle.codec_payload_metadata.specs.declared.meta.RtpMeta.{RtpMeta}
 use Rattle.codec_payload_buffer_runs.specs.Headline.{IsUnused}
 use Rattle.codec_payload_buffer_runs.specs.LawfulUnits.{AllLawful}
 use Rattle.codec_payload_payloader.specs.Packets.{Packet, AreNumbered}

@@ -18,7 +18,7 @@ use Rattle.codec_payload_codec.specs.Depacketizers.{DepacketizerState, Depacketi
 use Rattle.codec_payload_buffer_runs.specs.Headline.{ArePushesBy, packets_before, IsUnitAt, IsUnused}
 use Rattle.codec_payload_buffer.specs.Held.{Held, Rises, IsAboveCutoff, placed, above, between, has_number}
 use Rattle.codec_payload_payloader.specs.Packets.{Packet, AreNumbered}
-use Rattle.codec_payload_buffer.specs.Release.{Release}
+use Rattle.codec_payload_metadata.specs.Release.{Release}
 use Rattle.codec_payload_buffer_runs.proofs.units.BuiltInRuns.{DoesStep, SendsIt, plainly}
 use Rattle.codec_payload_buffer_runs.specs.Schedule.{Answer, RunState}
 use Rattle.codec_payload_payloader.specs.Sending.{Sample}
@@ -27,8 +27,8 @@ use Rattle.codec_payload_buffer_runs.specs.SentStream.{SentUnit, packets_of, All
 use Rattle.codec_payload_buffer.specs.Steps.{State, pushed, kept_to_limit, without_lowest, is_dropped, is_at_most, without, metas_of, due_of, packets_of_frame}
 use Rattle.codec_payload_buffer.specs.Steps.{Unpacked, Unpacks, nothing_unpacked, Gives, Passes, none, one_more, PassesOver, Releases, Refuses}
 use Rattle.codec_payload_buffer.specs.declared.buffer.frames.CompleteFrame.{CompleteFrame}
-use Rattle.codec_payload_buffer.specs.declared.buffer.unit.RtpMeta.{RtpMeta}
-use Rattle.codec_payload_buffer.specs.declared.contiguity.Contiguity.{Contiguity}
+use Rattle.codec_payload_metadata.specs.declared.meta.RtpMeta.{RtpMeta}
+use Rattle.codec_payload_contiguity.specs.declared.contiguity.Contiguity.{Contiguity}
 use Rattle.codec_payload_buffer_runs.specs.declared.run.Sent.{Sent}
 use Rattle.codec_payload_buffer_runs.specs.declared.run.Step.{Step}
 use Rattle.codec_payload_buffer_runs.specs.declared.run.Step.TheVariants as steps

@@ -12,7 +12,7 @@ use Rattle.codec_payload_buffer_runs.specs.Schedule.{run_state, after_send, Send
 use Rattle.codec_payload_codec.specs.Depacketizers.{DepacketizerState}
 use Rattle.codec_payload_buffer.specs.Held.{Held}
 use Rattle.codec_payload_buffer.specs.Steps.{State, IsArrived}
-use Rattle.codec_payload_buffer.specs.declared.buffer.unit.RtpMeta.{RtpMeta}
+use Rattle.codec_payload_metadata.specs.declared.meta.RtpMeta.{RtpMeta}
 use Rattle.codec_payload_payloader.proofs.SendLemmas.{Keeps, kept_all, kept_numbered, as_many}
 
 pub length-packets_for : (packetizer : PacketizerState) (sample : Sample) (rtp_time number : ℕ) (payloads : List (List ℕ))

@@ -6,7 +6,7 @@ use Rattle.codec_payload_buffer_runs.proofs.order.FollowsLemmas.{checked_lacks}
 use Rattle.codec_payload_buffer_runs.proofs.order.TurnLemmas.{Setting, Beyond, frame_due, IsPop, waits, releases, Chain, IsReady, passed_beyond, span_ready, ready_pops, left_ready}
 use Rattle.codec_payload_buffer_runs.proofs.units.UnitIds.{told_at}
 use Rattle.codec_payload_buffer_runs.proofs.units.UnitRows.{exact_payloads}
-use Rattle.codec_payload_buffer.specs.ContiguityTable.{checked}
+use Rattle.codec_payload_contiguity.specs.ContiguityTable.{checked}
 use Rattle.codec_payload_codec.specs.Depacketizers.{DepacketizerState}
 use Rattle.codec_payload_buffer_runs.specs.Headline.{packets_before}
 use Rattle.codec_payload_buffer.specs.Held.{Held}
@@ -16,7 +16,7 @@ use Rattle.codec_payload_buffer_runs.specs.Schedule.{Answer}
 use Rattle.codec_payload_buffer.specs.Steps.{State, due_of, follows, Unpacked, Unpacks, nothing_unpacked, Gives, Passes, none, one_more, PassesOver}
 use Rattle.codec_payload_buffer_runs.specs.ReportedIds.{Tells, id_later, read_by}
 use Rattle.codec_payload_buffer.specs.declared.buffer.frames.CompleteFrame.{CompleteFrame}
-use Rattle.codec_payload_buffer.specs.declared.contiguity.Contiguity.{Contiguity}
+use Rattle.codec_payload_contiguity.specs.declared.contiguity.Contiguity.{Contiguity}
 
 -- the facts about a depacketizer and the stored ids, if the latest accepted unit is the one before place n
 pub Follows : Setting → ℕ → DepacketizerState → Contiguity → Type 0

@@ -18,7 +18,7 @@ use Rattle.codec_payload_buffer_runs.specs.Headline.{IsPushOf, InOrder}
 use Rattle.codec_payload_buffer.specs.Held.{Held, number_of, has_number, above}
 use Rattle.codec_payload_buffer_runs.specs.Log.{Stretch, Turn, begun, with_pushes, IsLogBy}
 use Rattle.codec_payload_payloader.specs.Packets.{Packet, AreNumbered}
-use Rattle.codec_payload_buffer.specs.Release.{Release}
+use Rattle.codec_payload_metadata.specs.Release.{Release}
 use Rattle.codec_payload_buffer_runs.specs.RunOrder.{numbers_in, IsSentPacket, IsStretch, up_to, IsOrdered, AreStretches}
 use Rattle.codec_payload_buffer_runs.specs.Schedule.{Answer}
 use Rattle.codec_payload_buffer_runs.specs.LawfulUnits.{AllLawful}
@@ -26,7 +26,7 @@ use Rattle.codec_payload_buffer_runs.specs.SentStream.{SentUnit, packets_of}
 use Rattle.codec_payload_buffer.specs.Steps.{State, IsSound, pushed, is_at_most, due_of, Passes, none, one_more, PopsOver, Releases}
 use Rattle.codec_payload_buffer.specs.Stretches.{after_pushes, kept, IsLeft, IsInRange}
 use Rattle.codec_payload_buffer.specs.declared.buffer.frames.CompleteFrame.{CompleteFrame}
-use Rattle.codec_payload_buffer.specs.declared.buffer.unit.RtpMeta.{RtpMeta}
+use Rattle.codec_payload_metadata.specs.declared.meta.RtpMeta.{RtpMeta}
 use Rattle.codec_payload_buffer_runs.specs.declared.run.Sent.{Sent}
 use Rattle.codec_payload_buffer_runs.specs.declared.run.Step.{Step}
 use Rattle.codec_payload_buffer_runs.specs.declared.run.Step.TheVariants as steps

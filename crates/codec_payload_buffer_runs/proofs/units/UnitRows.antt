@@ -13,7 +13,7 @@ use Rattle.codec_payload_payloader.specs.Packets.{Packet}
 use Rattle.codec_payload_buffer_runs.specs.LawfulUnits.{StartsWithHead, payloads_held, payloads_sent, AllLawful}
 use Rattle.codec_payload_buffer_runs.specs.SentStream.{SentUnit, packets_of, EndsWithTail}
 use Rattle.codec_payload_buffer.specs.Steps.{metas_of}
-use Rattle.codec_payload_buffer.specs.declared.buffer.unit.RtpMeta.{RtpMeta}
+use Rattle.codec_payload_metadata.specs.declared.meta.RtpMeta.{RtpMeta}
 use Rattle.codec_payload_buffer_runs.specs.declared.run.Sent.{Sent}
 use Rattle.codec_payload_buffer_runs.specs.declared.run.Step.{Step}
 

@@ -1,14 +1,14 @@
 //! The answers for the numbers of packets: their extended numbers, or why they have none.
 
 ghost use Rattle.std.specs.Prelude.{◌≡◌, ◌≤◌, IfSome, Option};
-ghost use Rattle.codec_payload_jitter.specs.Numbers.{number_in};
+ghost use Rattle.codec_payload_numbers.specs.Numbers.{number_in};
 ghost use Rattle.codec_payload_jitter.specs.Receiving.{answer_in, answer_to, follows_kept, is_contradicted, is_of_former_sender, number_again, number_again_for};
 
 use super::JitterBuffer;
-use crate::noted_times::{NotedTime, is_soon_after, is_untimely};
-use crate::numbers::{Extended, number_within, without_restart};
 use codec_payload_buffer::buffer::PackedHeader;
 use codec_payload_codec::codec::Depacketizer;
+use codec_payload_numbers::noted_times::{NotedTime, is_soon_after, is_untimely};
+use codec_payload_numbers::numbers::{Extended, number_within, without_restart};
 
 impl<B: Depacketizer> JitterBuffer<B> {
     /// Returns the extended number, or the answer without one, for the next packet with the low bits `low`.

@@ -5,13 +5,13 @@ ghost use Rattle.codec_payload_base.specs.declared.error.PacketError.TheVariants
 ghost use Rattle.codec_payload_codec.specs.Depacketizers.{is_built_in_depacketizer};
 ghost use Rattle.codec_payload_jitter.specs.OwnReceiving.{OwnStores};
 ghost use Rattle.codec_payload_jitter.specs.Receiving.{NotesAs, ReceivesAs, arrival_of, former_of};
-ghost use Rattle.codec_payload_jitter.specs.declared.numbers.Extended.TheVariants as extended;
+ghost use Rattle.codec_payload_numbers.specs.declared.numbers.Extended.TheVariants as extended;
 
 use super::{JitterBuffer, KeptPacket};
-use crate::noted_times::FormerSender;
 use crate::outcome::Outcome;
 use codec_payload_base::error::PacketError;
 use codec_payload_codec::codec::Depacketizer;
+use codec_payload_numbers::noted_times::FormerSender;
 
 impl<B: Depacketizer> JitterBuffer<B> {
     /// Stores the packet that confirms a restart, as [`JitterBuffer::restart_with`] does, and remembers the former sender.

@@ -4,7 +4,8 @@
 ghost use Rattle.std.specs.Prelude.{◌≡◌, IfOk, OnOk, OnErr, IfErr, Option, false};
 ghost use Rattle.std.specs.Option.{option_map};
 ghost use Rattle.codec_payload_base.specs.declared.error.PacketError.TheVariants.{OutOfMemory};
-ghost use Rattle.codec_payload_jitter.specs.Receiving.{Confirms, GoesInAgain, GoesOn, NotesRestart, Restarts, TakesInBoth, arrival_of, counted, first_past, first_with, kept_number, meta_for, restarted, RestartsWith};
+ghost use Rattle.codec_payload_jitter.specs.Receiving.{Confirms, GoesInAgain, GoesOn, NotesRestart, Restarts, TakesInBoth, arrival_of, counted, first_past, first_with, meta_for, restarted, RestartsWith};
+ghost use Rattle.codec_payload_numbers.specs.Numbers.{kept_number};
 ghost use Rattle.codec_payload_buffer.specs.Steps.{IsSound};
 ghost use Rattle.codec_payload_codec.specs.Depacketizers.{is_built_in_depacketizer};
 ghost use Rattle.codec_payload_jitter.specs.NoMediaNumbers.{noted_no_media};
@@ -13,13 +14,13 @@ ghost use Rattle.codec_payload_jitter.specs.declared.outcome.Outcome.TheVariants
 
 use super::{JitterBuffer, KeptPacket, meta_for, store};
 use crate::kept_missing::is_sound;
-use crate::noted_times::NotedTime;
-use crate::numbers::{Extended, kept_number};
 use crate::outcome::{Outcome, outcome_of, with_kept, with_outcome, with_restart};
 use codec_payload_base::error::PacketError;
 use codec_payload_base::wire::Frequency;
 use codec_payload_buffer::buffer::{DepacketizingBuffer, Incoming, PackedHeader};
 use codec_payload_codec::codec::Depacketizer;
+use codec_payload_numbers::noted_times::NotedTime;
+use codec_payload_numbers::numbers::{Extended, kept_number};
 use std::alloc::AllocError;
 
 impl<B: Depacketizer> JitterBuffer<B> {

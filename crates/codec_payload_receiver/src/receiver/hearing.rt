@@ -4,17 +4,18 @@ ghost use Rattle.std.specs.Prelude.{◌≡◌, ◌==◌, not, false};
 ghost use Rattle.codec_payload_codec.specs.Depacketizers.{is_built_in_depacketizer};
 ghost use Rattle.codec_payload_jitter.specs.OwnReceiving.{OwnStores};
 ghost use Rattle.codec_payload_rtp.specs.RtpValues.{packet_of};
-ghost use Rattle.codec_payload_receiver.specs.Kinds.{Malformed, RtcpPacket, WithMedia, datagram_at, datagram_of, kind_for};
+ghost use Rattle.codec_payload_datagrams.specs.Kinds.{Malformed, RtcpPacket, WithMedia, datagram_at, datagram_of, kind_for};
 ghost use Rattle.codec_payload_receiver.specs.Sessions.{Heard, is_suspect};
-ghost use Rattle.codec_payload_receiver.specs.declared.datagram.Malformation.TheVariants as malformations;
+ghost use Rattle.codec_payload_datagrams.specs.declared.kinds.Malformation.TheVariants as malformations;
 
 use super::{ReceiveError, Receiver, with_datagram};
 use crate::answers::answer_for;
-use crate::datagram::{Datagram, Found, Malformation, observe, observe_media, ssrc_after};
+use crate::datagram::{Found, observe, observe_media, ssrc_after};
 use crate::notes::{prepare_note, settle_note};
-use crate::parsed::ParsedDatagram;
 use codec_payload_base::wire::Ticks;
 use codec_payload_codec::codec::Depacketizer;
+use codec_payload_datagrams::kinds::{Datagram, Malformation};
+use codec_payload_datagrams::parsed::ParsedDatagram;
 use codec_payload_jitter::jitter::Outcome;
 use codec_payload_rtp::rtp::{RtpError, RtpPacket};
 
@@ -83,7 +84,7 @@ impl<B: Depacketizer> Receiver<B> {
         ensures own { is_built_in_depacketizer self.old.packets.buffer.depacketizer ≡ false → OwnStores B.is_head B.is_tail self.old.packets.buffer self.new.packets.buffer }
     {
         if self.notes.is_some() {
-            return self.hear_datagram(now, &Datagram::Media(*packet));
+            return self.hear_noted(now, packet);
         }
         let restarts = self.packets.counters().restarts;
         let Ok(outcome) = self
@@ -98,6 +99,15 @@ impl<B: Depacketizer> Receiver<B> {
         observe_media(&mut self.statistics, now, packet, found);
         self.choice.note_at(now);
         Ok(outcome)
+    }
+
+    /// Receives an RTP packet with media of the stream, as one of the datagrams. The large value is made out of the way of others.
+    #[inline(never)]
+    fn hear_noted(&mut self, now: Ticks, packet: &RtpPacket<'_>) -> Result<Outcome, ReceiveError>
+        ensures heard { Heard now (WithMedia (packet_of packet.now)) self.old result self.new }
+        ensures own { is_built_in_depacketizer self.old.packets.buffer.depacketizer ≡ false → OwnStores B.is_head B.is_tail self.old.packets.buffer self.new.packets.buffer }
+    {
+        self.hear_datagram(now, &Datagram::Media(*packet))
     }
 
     /// Receives an RTP packet of any kind.

@@ -17,6 +17,7 @@ use codec_payload_base::error::PacketError;
 use codec_payload_base::wire::Ticks;
 use codec_payload_buffer::buffer::PoppedUnit;
 use codec_payload_codec::codec::Depacketizer;
+use codec_payload_keyframes::references::UnitReferences;
 use std::alloc::AllocError;
 
 impl<B: Depacketizer> Receiver<B> {
@@ -88,7 +89,8 @@ impl<B: Depacketizer> Receiver<B> {
     {
         let left = self.packets.counters().left;
         let answer = self.packets.pop_unit(now, unit);
-        let references = take_notes_in(&mut self.notes, &answer, unit);
+        let mut references = UnitReferences::none();
+        take_notes_in(&mut self.notes, &answer, unit, &mut references);
         if self.bound.note_in(&answer, unit) {
             self.gates.lose();
             return (answer, true);

@@ -7,7 +7,8 @@ use crate::codec::Depacketizer;
 use crate::jitter::jitter_buffer::Outcome;
 use crate::rtp::packet::{RtpError, RtpPacket};
 use crate::stream::answers::answer_for;
-use crate::stream::datagram::{Datagram, Found, Malformation, observe, observe_media, ssrc_after};
+use crate::stream::datagram::{Found, observe, observe_media, ssrc_after};
+use crate::stream::kinds::{Datagram, Malformation};
 use crate::stream::notes::{prepare_note, settle_note};
 use crate::stream::parsed::ParsedDatagram;
 use crate::wire::Ticks;
@@ -62,7 +63,7 @@ impl<B: Depacketizer> Receiver<B> {
     #[inline(always)]
     fn hear_media(&mut self, now: Ticks, packet: &RtpPacket<'_>) -> Result<Outcome, ReceiveError> {
         if self.notes.is_some() {
-            return self.hear_datagram(now, &Datagram::Media(*packet));
+            return self.hear_noted(now, packet);
         }
         let restarts = self.packets.counters().restarts;
         let Ok(outcome) = self
@@ -77,6 +78,12 @@ impl<B: Depacketizer> Receiver<B> {
         observe_media(&mut self.statistics, now, packet, found);
         self.choice.note_at(now);
         Ok(outcome)
+    }
+
+    /// Receives an RTP packet with media of the stream, as one of the datagrams. The large value is made out of the way of others.
+    #[inline(never)]
+    fn hear_noted(&mut self, now: Ticks, packet: &RtpPacket<'_>) -> Result<Outcome, ReceiveError> {
+        self.hear_datagram(now, &Datagram::Media(*packet))
     }
 
     /// Receives an RTP packet of any kind.

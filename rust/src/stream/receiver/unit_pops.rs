@@ -6,6 +6,7 @@ use super::Receiver;
 use crate::buffer::PoppedUnit;
 use crate::codec::Depacketizer;
 use crate::error::PacketError;
+use crate::keyframes::references::UnitReferences;
 use crate::memory::AllocError;
 use crate::stream::gated::follow_to;
 use crate::stream::notes::take_notes_in;
@@ -51,7 +52,8 @@ impl<B: Depacketizer> Receiver<B> {
     ) -> (Option<Result<(), PacketError>>, bool) {
         let left = self.packets.counters().left;
         let answer = self.packets.pop_unit(now, unit);
-        let references = take_notes_in(&mut self.notes, &answer, unit);
+        let mut references = UnitReferences::none();
+        take_notes_in(&mut self.notes, &answer, unit, &mut references);
         if self.bound.note_in(&answer, unit) {
             self.gates.lose();
             return (answer, true);

@@ -4,7 +4,7 @@ use crate::Fail;
 use crate::asserts::{assert_bytes, assert_count, assert_same};
 use crate::buffer::meta;
 use crate::library::{buffer_of, pop_unit, push};
-use codec_payload::buffer::{Depacketized, DepacketizingBuffer, RtpMeta, UnitInfo};
+use codec_payload::buffer::{Depacketized, DepacketizingBuffer, PoppedUnit, RtpMeta};
 use codec_payload::error::PacketError;
 use codec_payload::memory::TryVec;
 use codec_payload::wire::{
@@ -155,15 +155,6 @@ fn meta_of(number: u64, ext_vals: ExtensionValues) -> RtpMeta {
     }
 }
 
-/// The next unit, into this memory.
-fn pop_into(
-    buffer: &mut DepacketizingBuffer,
-    bytes: &mut Vec<u8>,
-    metas: &mut Vec<RtpMeta>,
-) -> Option<Result<UnitInfo, PacketError>> {
-    buffer.pop_into(bytes, metas)
-}
-
 /// What is known of the packet of that number: of even ones with every value of a header extension, of others with none.
 fn known_of(number: u64) -> RtpMeta {
     let values = if number.is_multiple_of(2) {
@@ -183,35 +174,28 @@ fn push_number(buffer: &mut DepacketizingBuffer, number: u64) -> Result<(), Pack
 fn assert_next(
     buffer: &mut DepacketizingBuffer,
     number: u64,
-    bytes: &mut Vec<u8>,
-    metas: &mut Vec<RtpMeta>,
+    unit: &mut PoppedUnit,
 ) -> Result<(), Fail> {
-    let info = match pop_into(buffer, bytes, metas) {
-        Some(Ok(info)) => info,
-        Some(Err(_)) => return Err("a fault".into()),
-        None => return Err("no unit".into()),
-    };
+    buffer.pop_unit(unit).ok_or("no unit")??;
     let wanted = known_of(number);
-    assert_same("the time of the unit", &info.time, &wanted.time);
-    assert_same("contiguous", &info.contiguous, &true);
-    assert_bytes("the unit", bytes, &[0x90, (number % 256) as u8]);
-    assert_count("packets", metas.len(), 1);
-    for meta in metas.iter() {
-        assert_same("what is known", meta, &wanted);
-    }
+    assert_same("the time of the unit", &unit.time, &wanted.time);
+    assert_same("contiguous", &unit.contiguous, &true);
+    assert_bytes("the unit", &unit.bytes, &[0x90, (number % 256) as u8]);
+    assert_count("packets", unit.packets(), 1);
+    assert_same("what is known", &unit.meta(0), &wanted);
     Ok(())
 }
 
 #[test]
 fn units_into_the_same_memory() -> Result<(), Fail> {
     let mut buffer = buffer_of(Codec::Opus)?;
-    let mut bytes = Vec::try_from_slice(&[1, 2, 3])?;
-    let mut metas = Vec::new();
+    let mut unit = PoppedUnit::new();
+    unit.bytes = Vec::try_from_slice(&[1, 2, 3])?;
     push_number(&mut buffer, 70_000)?;
     push_number(&mut buffer, 70_001)?;
-    assert_next(&mut buffer, 70_000, &mut bytes, &mut metas)?;
-    assert_next(&mut buffer, 70_001, &mut bytes, &mut metas)?;
-    let end = pop_into(&mut buffer, &mut bytes, &mut metas).is_none();
+    assert_next(&mut buffer, 70_000, &mut unit)?;
+    assert_next(&mut buffer, 70_001, &mut unit)?;
+    let end = buffer.pop_unit(&mut unit).is_none();
     assert_same("the end", &end, &true);
     Ok(())
 }

@@ -1,5 +1,5 @@
 /* The units of a schedule through libavformat's demuxer of RTP: ffmpeg KIND. The demuxer reads the packets from memory, one for each
- * call, and its clock stands at the packet that was read last. */
+ * call, and its clock is at the packet that was read last. */
 #include <libavformat/avformat.h>
 
 #include "schedule.h"

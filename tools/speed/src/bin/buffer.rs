@@ -2,7 +2,7 @@
 //!
 //!   buffer WAY ORDER HELD COUNT
 //!
-//! - WAY: `into` pops by `pop_into`, `unit` by `pop_unit`; `packed` does so too, and pushes packed metadata by `store_packed`.
+//! - WAY: `unit` pushes by `push`, `packed` pushes packed metadata by `store_packed`. Both pop by `pop_unit`.
 //! - ORDER: `opus` is in order, `rows` 32 at a time in reverse, `vp8` has 17 packets a frame.
 //!
 //! The difference of two runs under callgrind, divided by the difference of their counts, is what a packet takes. It includes
@@ -47,24 +47,10 @@ fn push(buffer: &mut DepacketizingBuffer, way: &str, place: (u64, u64, bool), pa
     }
 }
 
-/// What a unit is popped into.
-#[derive(Default)]
-struct Memory {
-    bytes: Vec<u8>,
-    metas: Vec<RtpMeta>,
-    unit: PoppedUnit,
-}
-
-impl Memory {
-    /// Pops a unit, and returns the number of its bytes.
-    fn pop(&mut self, way: &str, buffer: &mut DepacketizingBuffer) -> Option<usize> {
-        if way != "into" {
-            buffer.pop_unit(&mut self.unit)?.ok()?;
-            return Some(self.unit.bytes.len());
-        }
-        buffer.pop_into(&mut self.bytes, &mut self.metas)?.ok()?;
-        Some(self.bytes.len())
-    }
+/// Pops a unit, and returns the number of its bytes.
+fn pop(buffer: &mut DepacketizingBuffer, unit: &mut PoppedUnit) -> Option<usize> {
+    buffer.pop_unit(unit)?.ok()?;
+    Some(unit.bytes.len())
 }
 
 fn main() {
@@ -82,10 +68,10 @@ fn main() {
     let depacketizer = CodecDepacketizer::from_codec(codec).unwrap();
     let mut buffer: DepacketizingBuffer =
         DepacketizingBuffer::with_limit(depacketizer, hold_back, 65_536);
-    let mut memory = Memory::default();
+    let mut unit = PoppedUnit::new();
     // A unit, and then a gap: so frames wait until more than `hold_back` are there.
     buffer.push(meta(0, 1 << 40, true), vec![0x10, 1]).unwrap();
-    assert!(memory.pop(way, &mut buffer).is_some());
+    assert!(pop(&mut buffer, &mut unit).is_some());
     let mut payload = vec![7; 120];
     let mut released = 0;
     for place in 0..count {
@@ -95,7 +81,7 @@ fn main() {
         }
         push(&mut buffer, way, (number + 2, time, marker), &payload);
         if (marker || !video)
-            && let Some(bytes) = memory.pop(way, &mut buffer)
+            && let Some(bytes) = pop(&mut buffer, &mut unit)
         {
             released += bytes;
         }

@@ -1,4 +1,4 @@
-//! What a datagram takes in a session that requests what it misses, where the peer chooses the numbers:
+//! What a datagram takes in a session that requests what it misses, if the peer chooses the numbers:
 //!
 //!   hostile KIND SIZE COUNT
 //!

@@ -9,7 +9,7 @@
 //! frames and releases in order.
 
 use codec_payload::{
-    Codec, CodecDepacketizer, DepacketizingBuffer, MediaTime, Pt, RtpMeta, SeqNo, Ticks,
+    Codec, CodecDepacketizer, DepacketizingBuffer, MediaTime, PoppedUnit, Pt, RtpMeta, SeqNo, Ticks,
 };
 use std::alloc::{GlobalAlloc, Layout, System};
 use std::collections::BTreeMap;
@@ -99,13 +99,13 @@ fn vp8() -> CodecDepacketizer {
     CodecDepacketizer::from_codec(Codec::Vp8).unwrap()
 }
 
-/// The buffer, and the memory into which it pops.
-struct Now(DepacketizingBuffer, Vec<u8>, Vec<RtpMeta>);
+/// The buffer, and the unit into which it pops.
+struct Now(DepacketizingBuffer, PoppedUnit);
 
 impl Form for Now {
     fn with_hold_back(hold_back: usize) -> Self {
         let buffer = DepacketizingBuffer::with_limit(vp8(), hold_back, LIMIT);
-        Now(buffer, vec![], vec![])
+        Now(buffer, PoppedUnit::new())
     }
 
     fn push(&mut self, number: u64, payload: &[u8]) {
@@ -115,7 +115,7 @@ impl Form for Now {
     }
 
     fn pop(&mut self) -> bool {
-        self.0.pop_into(&mut self.1, &mut self.2).is_some()
+        self.0.pop_unit(&mut self.1).is_some()
     }
 }
 
@@ -249,7 +249,7 @@ fn least(order: Order, held: usize, rounds: usize) -> [f64; 3] {
 
 /// The longest pop in nanoseconds: of each pop the least time of some rounds counts. Frames of one packet are held, packets that
 /// are no frame above them, and one frame above these. So once the frames below have left, the next one is far away. The first
-/// pops do not count: after so many pushes their packets are in no cache.
+/// pops do not count: after that many pushes their packets are in no cache.
 fn longest_pop(rounds: usize) -> u128 {
     let mut frame = [7; SIZE];
     frame[0] = 0x10;
@@ -285,8 +285,7 @@ fn print_memory() {
                 held,
                 LIMIT,
             ),
-            vec![],
-            vec![],
+            PoppedUnit::new(),
         );
         let blocks = BLOCKS.load(Relaxed);
         (0..held as u64).for_each(|it| form.push(it + 2, &[7; SIZE]));
@@ -294,10 +293,8 @@ fn print_memory() {
         let bytes = BYTES.load(Relaxed) - start + size_of::<DepacketizingBuffer>();
         form.0.set_hold_back(0);
         while form.pop() {}
-        let left = BYTES.load(Relaxed)
-            - start
-            - form.1.capacity()
-            - form.2.capacity() * size_of::<RtpMeta>();
+        form.1 = PoppedUnit::new();
+        let left = BYTES.load(Relaxed) - start;
         let packets = held.max(1) as f64;
         let beyond = (bytes - size_of::<DepacketizingBuffer>()) as f64 / packets - SIZE as f64;
         let beyond = if held == 0 { 0.0 } else { beyond };

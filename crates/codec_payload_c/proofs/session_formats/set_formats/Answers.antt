@@ -1,9 +1,9 @@
 use Rattle.std.proofs.Common.{◌∙◌, Option, ap, inl, inr, refl, sym}
 use Rattle.codec_payload_handle.specs.declared.object.PortSession.{PortSession}
-use Rattle.codec_payload_session.specs.Checks.{fault_of}
+use Rattle.codec_payload_session_formats.specs.Checks.{fault_of}
 use Rattle.codec_payload_session.specs.Ports.{Session}
 use Rattle.codec_payload_session.specs.Renegotiation.{with_formats}
-use Rattle.codec_payload_session.specs.declared.checks.SessionSettingsError.{SessionSettingsError}
+use Rattle.codec_payload_session_formats.specs.declared.checks.SessionSettingsError.{SessionSettingsError}
 use Rattle.codec_payload_c.proofs.SessionLemmas.{faulty_by, usable_by}
 use Rattle.codec_payload_c.proofs.session_formats.set_formats.Goals as goal
 

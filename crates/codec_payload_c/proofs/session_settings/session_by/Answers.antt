@@ -1,6 +1,6 @@
 use Rattle.std.proofs.Common.{inl, refl, ◌∙◌}
 use Rattle.std.specs.List.{list_all}
-use Rattle.codec_payload_session.specs.Checks.{fault_of}
+use Rattle.codec_payload_session_formats.specs.Checks.{fault_of}
 use Rattle.codec_payload_c.specs.SessionFormats.{fault_given, format_in_range, session_in_range}
 use Rattle.codec_payload_c.proofs.SessionLemmas.{made_new, range_of_made, range_of_refused, refused_by}
 use Rattle.codec_payload_c.proofs.session_settings.session_by.Goals as goal

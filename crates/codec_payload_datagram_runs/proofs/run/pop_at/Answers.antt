@@ -1,6 +1,6 @@
 use Rattle.std.proofs.Common.{◌≡◌, Some, Result, Ok, arith, subst}
 use Rattle.std.specs.declared.alloc.AllocError.{AllocError}
-use Rattle.codec_payload_buffer.specs.Release.{Release}
+use Rattle.codec_payload_metadata.specs.Release.{Release}
 use Rattle.codec_payload_receiver.specs.OwnSessions.{OwnPopsGated}
 use Rattle.codec_payload_receiver.specs.Pops.{answer_of}
 use Rattle.codec_payload_receiver.specs.declared.pops.Popped.{Popped}

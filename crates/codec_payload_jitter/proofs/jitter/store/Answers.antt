@@ -1,6 +1,6 @@
 use Rattle.std.proofs.Common.{◌≡◌, ◌∙◌, ap, ℕ}
 use Rattle.codec_payload_buffer.specs.Steps.{placed_at}
-use Rattle.codec_payload_buffer.specs.declared.buffer.unit.RtpMeta.{RtpMeta}
+use Rattle.codec_payload_metadata.specs.declared.meta.RtpMeta.{RtpMeta}
 use Rattle.codec_payload_jitter.specs.Receiving.{outcome_of}
 use Rattle.codec_payload_jitter.proofs.OwnLemmas.{stores_pushed}
 use Rattle.codec_payload_jitter.proofs.ReceivingLemmas.{placed_outcome}

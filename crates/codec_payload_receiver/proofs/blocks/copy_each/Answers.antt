@@ -4,7 +4,7 @@ use Rattle.std.specs.List.{filter_map}
 use Rattle.std.specs.Option.{option_map}
 use Rattle.codec_payload_red.specs.RedBlocks.{Block, blocks_of}
 use Rattle.codec_payload_jitter.specs.Receiving.{Arrival}
-use Rattle.codec_payload_receiver.specs.Kinds.{carrier_of}
+use Rattle.codec_payload_datagrams.specs.Kinds.{carrier_of}
 use Rattle.codec_payload_receiver.specs.Sessions.{carried, copied}
 use Rattle.codec_payload_receiver.proofs.BlockLemmas.{one_more, none_more, none_left}
 use Rattle.codec_payload_receiver.proofs.blocks.copy_each.Goals as goal

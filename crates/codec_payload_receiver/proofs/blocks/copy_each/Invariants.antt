@@ -2,7 +2,7 @@ use Rattle.std.proofs.Common.{◌≡◌, ◌++◌, map, drop}
 use Rattle.std.specs.List.{filter_map}
 use Rattle.codec_payload_base.specs.declared.wire.Ticks.{Ticks}
 use Rattle.codec_payload_red.specs.RedBlocks.{blocks_of}
-use Rattle.codec_payload_receiver.specs.Kinds.{carrier_of}
+use Rattle.codec_payload_datagrams.specs.Kinds.{carrier_of}
 use Rattle.codec_payload_receiver.specs.Sessions.{carried, copied}
 use Rattle.codec_payload_receiver.proofs.blocks.copy_each.Given as goal
 

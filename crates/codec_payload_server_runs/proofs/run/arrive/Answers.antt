@@ -4,10 +4,10 @@ use Rattle.std.specs.Prelude.{slice_get}
 use Rattle.std.proofs.lemmas.Option.{slice_get-map, slice_get_read}
 use Rattle.codec_payload_codec.proofs.AnswerLemmas.{from_err, on_ok}
 use Rattle.codec_payload_datagram_runs.specs.WireRuns.{bytes_in}
-use Rattle.codec_payload_forward_runs.specs.ForwardRuns.{Hops, packet_in}
+use Rattle.codec_payload_forward_runs.specs.ForwardRuns.{Comes, Hops, packet_in}
 use Rattle.codec_payload_session.specs.Accepting.{Accepts, time_for}
 use Rattle.codec_payload_server_runs.proofs.ArrivalLemmas.{arrives_by}
-use Rattle.codec_payload_server_runs.specs.ServeRuns.{Comes, DoesIf, Served, served_of}
+use Rattle.codec_payload_server_runs.specs.ServeRuns.{DoesIf, Served, served_of}
 use Rattle.codec_payload_server_runs.proofs.run.arrive.Goals as goal
 
 abbrev bytes_of : Vec ℕ → List ℕ

@@ -1,6 +1,6 @@
 use Rattle.std.proofs.Common.{◌≡◌, ◌∙◌, Option, false, refl, subst, sym}
 use Rattle.codec_payload_session.specs.Associations.{TakesInBy, is_unassociated}
-use Rattle.codec_payload_session.specs.declared.formats.SsrcPair.{SsrcPair}
+use Rattle.codec_payload_session_formats.specs.declared.formats.SsrcPair.{SsrcPair}
 use Rattle.codec_payload_session.proofs.AssociationLemmas.{no_pair}
 use Rattle.codec_payload_session.proofs.association.take_in.Goals as goal
 

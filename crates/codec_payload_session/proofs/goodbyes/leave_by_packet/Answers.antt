@@ -19,7 +19,7 @@ no_goodbye (lent.PictureLoss f) not ssrc = refl
 no_goodbye (lent.FullIntra f) not ssrc = refl
 no_goodbye (lent.Other p) not ssrc = refl
 
-pub returns-in_default : goal.returns-in_default
-returns-in_default c =
+pub returns-in_default-clause-left : goal.returns-in_default-clause-left
+returns-in_default-clause-left c =
     sym (left_nobody (λ ssrc. says_goodbye ssrc (packet_of c.args.packet.now)) endings.Bye c.args.at c.args.streams.now
     (no_goodbye c.args.packet.now c.in_default.not-Goodbye))

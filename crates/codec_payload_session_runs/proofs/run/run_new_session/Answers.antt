@@ -1,5 +1,5 @@
 use Rattle.std.proofs.Common.{subst}
-use Rattle.codec_payload_session.specs.Checks.{fault_of}
+use Rattle.codec_payload_session_formats.specs.Checks.{fault_of}
 use Rattle.codec_payload_session.specs.Ports.{Session}
 use Rattle.codec_payload_session_runs.specs.SessionRuns.{Runs, calls_of}
 use Rattle.codec_payload_session_runs.proofs.RunLemmas.{made_new, made_none, refused_by}

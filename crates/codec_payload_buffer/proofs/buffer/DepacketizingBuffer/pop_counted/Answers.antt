@@ -1,7 +1,7 @@
 use Rattle.std.proofs.Common.{◌≡◌, ◌∙◌, ap, sym, subst, Option, Some, None, Result, Ok, Err}
 use Rattle.codec_payload_base.specs.declared.error.PacketError.{PacketError}
 use Rattle.codec_payload_buffer.specs.Leaving.{PopsLeaving}
-use Rattle.codec_payload_buffer.specs.Release.{Release}
+use Rattle.codec_payload_metadata.specs.Release.{Release}
 use Rattle.codec_payload_buffer.specs.Steps.{popped_into}
 use Rattle.codec_payload_buffer.specs.declared.buffer.unit.UnitInfo.{UnitInfo}
 use Rattle.codec_payload_buffer.proofs.buffer.DepacketizingBuffer.pop_counted.Goals as goal

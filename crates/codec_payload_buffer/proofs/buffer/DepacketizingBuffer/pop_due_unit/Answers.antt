@@ -1,5 +1,5 @@
 use Rattle.std.proofs.Common.{◌≡◌, ◌≤◌, ◌+◌, ◌-◌, arith, [], ◌∷◌, ◌∙◌, refl, sym, length, Some, None, Ok, Err}
-use Rattle.codec_payload_buffer.specs.Release.{Release}
+use Rattle.codec_payload_metadata.specs.Release.{Release}
 use Rattle.codec_payload_buffer.specs.Steps.{PassesOver, Pops, TakesFrame, due_of, none, one_more, packets_of_frame}
 use Rattle.codec_payload_buffer.proofs.BlankLemmas.{takes_away_from}
 use Rattle.codec_payload_buffer.proofs.LeavingLemmas.{left_is, more_in, passed_fits, refused_counts}

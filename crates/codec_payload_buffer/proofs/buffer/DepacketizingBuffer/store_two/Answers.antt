@@ -5,7 +5,7 @@ use Rattle.codec_payload_buffer.specs.Buffer.{state_of}
 use Rattle.codec_payload_buffer.specs.Held.{Held, held_of}
 use Rattle.codec_payload_buffer.specs.Pairs.{stored}
 use Rattle.codec_payload_buffer.specs.Steps.{IsArrived, IsSound, State, arrived_by, placed_at, pushed}
-use Rattle.codec_payload_buffer.specs.declared.buffer.unit.RtpMeta.{RtpMeta}
+use Rattle.codec_payload_metadata.specs.declared.meta.RtpMeta.{RtpMeta}
 use Rattle.codec_payload_buffer.proofs.PairLemmas.{pushed_sound, stored_twice}
 use Rattle.codec_payload_buffer.proofs.buffer.DepacketizingBuffer.store_two.Goals as goal
 

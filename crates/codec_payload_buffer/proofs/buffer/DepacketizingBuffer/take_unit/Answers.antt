@@ -3,7 +3,7 @@ use Rattle.std.specs.Prelude.{slice_range}
 use Rattle.std.proofs.lemmas.Result.{err_from_is_err_and}
 use Rattle.codec_payload_base.specs.declared.error.PacketError.TheVariants.{OutOfMemory}
 use Rattle.codec_payload_buffer.specs.Buffer.{state_of}
-use Rattle.codec_payload_buffer.specs.ContiguityTable.{checked}
+use Rattle.codec_payload_contiguity.specs.ContiguityTable.{checked}
 use Rattle.codec_payload_codec.specs.Depacketizers.{depacketizer_state_of, is_built_in_depacketizer}
 use Rattle.codec_payload_buffer.specs.Held.{held_of}
 use Rattle.codec_payload_buffer.specs.Steps.{State, Unpacked, due_of, packets_of_frame, metas_of, follows}

@@ -3,7 +3,7 @@ use Rattle.codec_payload_base.specs.declared.error.PacketError.{PacketError}
 use Rattle.codec_payload_codec.specs.Depacketizers.{is_built_in_depacketizer}
 use Rattle.codec_payload_buffer.specs.Frames.{frames}
 use Rattle.codec_payload_buffer.specs.Leaving.{IsWhole}
-use Rattle.codec_payload_buffer.specs.Release.{Release}
+use Rattle.codec_payload_metadata.specs.Release.{Release}
 use Rattle.codec_payload_buffer.specs.Steps.{State, OwnPops, Pops}
 use Rattle.codec_payload_jitter.specs.Receiving.{IsCounted, PopsWith, Receiving, arrival_of, counted_pop, is_pressed, settled, units_in, waiting_at}
 use Rattle.std.specs.Option.{option_map}

@@ -1,7 +1,7 @@
 use Rattle.std.proofs.Common.{◌≡◌, ◌∙◌, ℕ, ap, subst, false, Option}
-use Rattle.codec_payload_jitter.specs.Numbers.{Numbering, lowest_with, numbering_with}
+use Rattle.codec_payload_numbers.specs.Numbers.{Numbering, lowest_with, numbering_with}
 use Rattle.codec_payload_jitter.specs.Receiving.{Arrival, Receiving, ReceivesAs, answer_to, with_first}
-use Rattle.codec_payload_jitter.specs.declared.numbers.Extended.{Extended}
+use Rattle.codec_payload_numbers.specs.declared.numbers.Extended.{Extended}
 use Rattle.codec_payload_jitter.proofs.jitter.JitterBuffer.push_packed.Goals as goal
 
 pub returns-clause-ok : goal.returns-clause-ok

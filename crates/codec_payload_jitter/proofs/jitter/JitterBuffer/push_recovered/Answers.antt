@@ -1,8 +1,8 @@
 use Rattle.std.proofs.Common.{◌≡◌, ◌∙◌, ℕ, ap, sym, false, Option, Some, true}
-use Rattle.codec_payload_jitter.specs.Numbers.{Numbering, lowest_with, numbering_with}
+use Rattle.codec_payload_numbers.specs.Numbers.{Numbering, lowest_with, numbering_with}
 use Rattle.codec_payload_jitter.specs.Receiving.{Receiving, counted_recovered, may_recover, number_again_for}
-use Rattle.codec_payload_jitter.specs.declared.numbers.Extended.{Extended}
-use Rattle.codec_payload_jitter.specs.declared.numbers.Extended.TheVariants as extended
+use Rattle.codec_payload_numbers.specs.declared.numbers.Extended.{Extended}
+use Rattle.codec_payload_numbers.specs.declared.numbers.Extended.TheVariants as extended
 use Rattle.codec_payload_jitter.proofs.ReceivingLemmas.{recovers_is}
 use Rattle.codec_payload_jitter.proofs.jitter.JitterBuffer.push_recovered.Goals as goal
 

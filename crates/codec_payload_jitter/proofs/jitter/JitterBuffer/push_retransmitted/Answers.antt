@@ -1,8 +1,8 @@
 use Rattle.std.proofs.Common.{◌≡◌, ◌∙◌, ℕ, ap, sym, false, Option, Some}
-use Rattle.codec_payload_jitter.specs.Numbers.{Numbering, lowest_with, numbering_with}
+use Rattle.codec_payload_numbers.specs.Numbers.{Numbering, lowest_with, numbering_with}
 use Rattle.codec_payload_jitter.specs.Receiving.{Receiving, counted_in_again, number_again_for, with_first}
-use Rattle.codec_payload_jitter.specs.declared.numbers.Extended.{Extended}
-use Rattle.codec_payload_jitter.specs.declared.numbers.Extended.TheVariants as extended
+use Rattle.codec_payload_numbers.specs.declared.numbers.Extended.{Extended}
+use Rattle.codec_payload_numbers.specs.declared.numbers.Extended.TheVariants as extended
 use Rattle.codec_payload_jitter.proofs.ReceivingLemmas.{receives_again_is}
 use Rattle.codec_payload_jitter.proofs.jitter.JitterBuffer.push_retransmitted.Goals as goal
 

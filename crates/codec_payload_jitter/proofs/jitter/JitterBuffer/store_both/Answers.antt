@@ -1,7 +1,7 @@
 use Rattle.std.proofs.Common.{◌≡◌, ◌∙◌, ap, sym, subst, refl, length}
 use Rattle.std.specs.Option.{option_map}
-use Rattle.codec_payload_jitter.specs.NotedTimes.{Noted, noted_with}
-use Rattle.codec_payload_jitter.specs.declared.noted_times.NotedTime.{NotedTime}
+use Rattle.codec_payload_numbers.specs.NotedTimes.{Noted, noted_with}
+use Rattle.codec_payload_numbers.specs.declared.noted_times.NotedTime.{NotedTime}
 use Rattle.codec_payload_jitter.specs.KeptMissing.{Keeps, Kept, touched}
 use Rattle.codec_payload_jitter.specs.Receiving.{Receiving, IsCounted, arrival_of, counted, counted_again, counted_restart}
 use Rattle.codec_payload_jitter.specs.declared.outcome.PacketCounters.{PacketCounters}

@@ -1,7 +1,7 @@
 use Rattle.std.proofs.Common.{◌≡◌, List, map, rules, subst, IfOk}
 use Rattle.codec_payload_rtp.specs.RtpValues.{packet_of}
 use Rattle.codec_payload_jitter.specs.Receiving.{Arrival}
-use Rattle.codec_payload_receiver.specs.Kinds.{Again, AgainInRed, Carrier, Datagram, InRed, Kinds, WithMedia, carrier_of, datagram_of, original_of}
+use Rattle.codec_payload_datagrams.specs.Kinds.{Again, AgainInRed, Carrier, Datagram, InRed, Kinds, WithMedia, carrier_of, datagram_of, original_of}
 use Rattle.codec_payload_receiver.specs.Sessions.{Holding, TakesDatagram, copied}
 use Rattle.codec_payload_receiver.specs.Storing.{Brought, TakesAlone, TakesBrought, brought_of}
 use Rattle.codec_payload_receiver.specs.declared.storing.Taken.{Taken}

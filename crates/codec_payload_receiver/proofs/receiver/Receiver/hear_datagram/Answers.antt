@@ -2,11 +2,11 @@ use Rattle.std.proofs.Common.{◌≡◌, ◌∙◌, ℕ, Bool, ap, rules, sym, s
 use Rattle.std.specs.Option.{option_map}
 use Rattle.codec_payload_jitter.specs.declared.outcome.Outcome.{Outcome}
 use Rattle.codec_payload_receiver.specs.Noting.{Noting, noted_with, notes_after, noting_of, pending_in}
-use Rattle.codec_payload_receiver.specs.Choice.{Choosing, latest_after, origin_of}
-use Rattle.codec_payload_receiver.specs.Kinds.{Datagram, datagram_of}
-use Rattle.codec_payload_receiver.specs.SeenTimes.{Seen}
+use Rattle.codec_payload_datagrams.specs.Choice.{Choosing, latest_after, origin_of}
+use Rattle.codec_payload_datagrams.specs.Kinds.{Datagram, datagram_of}
+use Rattle.codec_payload_numbers.specs.SeenTimes.{Seen}
 use Rattle.codec_payload_receiver.specs.Sessions.{Heard, IsSorted, Session, arrived_with, has_restarted, is_suspect, observed_unless, reception_after, ssrc_after}
-use Rattle.codec_payload_receiver.specs.Reports.{Reception, reception_since}
+use Rattle.codec_payload_numbers.specs.Reports.{Reception, reception_since}
 use Rattle.codec_payload_receiver.specs.declared.notes.PendingNote.{PendingNote}
 use Rattle.codec_payload_receiver.specs.declared.receiver.Arrived.{Arrived}
 use Rattle.codec_payload_receiver.proofs.SessionLemmas.{heard, takes_balanced}

@@ -3,11 +3,11 @@ use Rattle.std.specs.Option.{option_map}
 use Rattle.codec_payload_rtp.specs.RtpValues.{packet_of}
 use Rattle.codec_payload_jitter.specs.declared.outcome.Outcome.{Outcome}
 use Rattle.codec_payload_receiver.specs.Noting.{Noting, noting_of, notes_after}
-use Rattle.codec_payload_receiver.specs.Choice.{Choosing, latest_after, origin_of}
-use Rattle.codec_payload_receiver.specs.Kinds.{Datagram, WithMedia}
-use Rattle.codec_payload_receiver.specs.SeenTimes.{Seen}
+use Rattle.codec_payload_datagrams.specs.Choice.{Choosing, latest_after, origin_of}
+use Rattle.codec_payload_datagrams.specs.Kinds.{Datagram, WithMedia}
+use Rattle.codec_payload_numbers.specs.SeenTimes.{Seen}
 use Rattle.codec_payload_receiver.specs.Sessions.{Heard, Session, arrived_with, has_restarted, is_suspect, observed_unless, reception_after, ssrc_after}
-use Rattle.codec_payload_receiver.specs.Reports.{Reception, reception_since}
+use Rattle.codec_payload_numbers.specs.Reports.{Reception, reception_since}
 use Rattle.codec_payload_receiver.proofs.NotingLemmas.{none_noted}
 use Rattle.codec_payload_receiver.proofs.SessionLemmas.{heard, takes_balanced}
 use Rattle.codec_payload_receiver.proofs.receiver.Receiver.hear_media.Goals as goal

@@ -2,7 +2,7 @@ use Rattle.std.proofs.Common.{◌∙◌, ℕ, Bool, true, false, refl, sym, ap}
 use Rattle.std.specs.Option.{option_map}
 use Rattle.std.specs.Option.{is_some}
 use Rattle.codec_payload_receiver.specs.Noting.{noting_of}
-use Rattle.codec_payload_receiver.specs.Choice.{Choosing, leaving, waiting_with}
+use Rattle.codec_payload_datagrams.specs.Choice.{Choosing, leaving, waiting_with}
 use Rattle.codec_payload_receiver.specs.Sessions.{Session, turned_away_if}
 use Rattle.codec_payload_receiver.proofs.receiver.Receiver.keep.Goals as goal
 

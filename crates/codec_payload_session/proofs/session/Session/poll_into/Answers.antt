@@ -1,6 +1,6 @@
 use Rattle.std.proofs.Common.{Option, None, Some, ap, subst}
 use Rattle.std.specs.Prelude.{⊤}
-use Rattle.codec_payload_buffer.specs.Release.{Release}
+use Rattle.codec_payload_metadata.specs.Release.{Release}
 use Rattle.codec_payload_session.specs.Polls.{Polls}
 use Rattle.codec_payload_session.specs.Ports.{Session}
 use Rattle.codec_payload_session.specs.Units.{event_to, with_unit}

@@ -3,7 +3,7 @@ use Rattle.codec_payload_rtp.specs.RtpPackets.{Packet}
 use Rattle.codec_payload_session.specs.Associations.{Associates, AssociatesBy, pair_at}
 use Rattle.codec_payload_session.specs.Ports.{IsPort, Session}
 use Rattle.codec_payload_session.specs.Telephone.{Queue, is_without_media, telephone_at}
-use Rattle.codec_payload_session.specs.declared.formats.SsrcPair.{SsrcPair}
+use Rattle.codec_payload_session_formats.specs.declared.formats.SsrcPair.{SsrcPair}
 use Rattle.codec_payload_session.specs.declared.session.ArrivalCounts.{ArrivalCounts}
 use Rattle.codec_payload_session.proofs.AssociationLemmas.{associates, takes_in_by_keeps}
 use Rattle.codec_payload_session.proofs.CheckLemmas.{takes_usable}

@@ -3,7 +3,7 @@ use Rattle.std.specs.List.{position}
 use Rattle.codec_payload_session.specs.Arrivals.{Port, has_ssrc}
 use Rattle.codec_payload_session.specs.Keyframes.{KeyframeLeaves, answer_among}
 use Rattle.codec_payload_session.specs.Ports.{IsPort, Session}
-use Rattle.codec_payload_session.specs.declared.keyframe.KeyframeAnswer.TheVariants as answers
+use Rattle.codec_payload_session_requests.specs.declared.requests.KeyframeAnswer.TheVariants as answers
 use Rattle.codec_payload_session.proofs.KeyframeLemmas.{asked_keeps, keyframe_leaves}
 use Rattle.codec_payload_session.proofs.session.Session.request_keyframe.Goals as goal
 

@@ -4,7 +4,7 @@ use Rattle.codec_payload_jitter.specs.declared.waiting.WaitLimits.{WaitLimits}
 use Rattle.codec_payload_receiver.specs.Sessions.{Session as Receiver, session_by}
 use Rattle.codec_payload_receiver.specs.declared.receiver.SettingsError.{SettingsError}
 use Rattle.codec_payload_session.proofs.CheckLemmas.{fits, known_by, receiver_made, some_mapped}
-use Rattle.codec_payload_session.specs.Requests.{feedback_by}
+use Rattle.codec_payload_session_requests.specs.Requests.{feedback_by}
 use Rattle.codec_payload_session.proofs.stream.StreamState.begin.Goals as goal
 
 pub unwrap-depacketizer-requires : goal.unwrap-depacketizer-requires

@@ -3,10 +3,11 @@ use Rattle.std.specs.Prelude.{⊤}
 use Rattle.std.proofs.lemmas.Bool.Decides.{nat_tests}
 use Rattle.codec_payload_session.specs.Quiet.{RestsUntil}
 use Rattle.codec_payload_receiver.specs.Sessions.{Session as Receiver}
-use Rattle.codec_payload_session.specs.Requests.{Asking, answered_if}
+use Rattle.codec_payload_session_requests.specs.Requests.{Asking, answered_if}
 use Rattle.codec_payload_session.specs.Streams.{Pops, RestsBy, StreamState, is_keyframe, step_with, work_deadline}
-use Rattle.codec_payload_buffer.specs.Release.{Release}
-use Rattle.codec_payload_session.specs.Units.{result_with, step_to}
+use Rattle.codec_payload_metadata.specs.Release.{Release}
+use Rattle.codec_payload_session.specs.Units.{step_to}
+use Rattle.codec_payload_session_requests.specs.Named.{result_with}
 use Rattle.codec_payload_session.specs.declared.stream.Step.{Step as StepWith}
 use Rattle.codec_payload_session.specs.declared.stream.Step.TheVariants as steps
 use Rattle.codec_payload_session.proofs.QuietLemmas.{nothing_is}
@@ -18,8 +19,8 @@ pub invariant_of-self-then-held : goal.invariant_of-self-then-held
 invariant_of-self-then-held c =
     let s : StreamState = record (seen c.self.inside) { receiver = c.pop_unit.new.self } in
     let t : StreamState = seen c.self-in-None.inside in
-    let nothing : c.rest-step.result ≡ steps.Nothing = nothing_is c.rest-step.result (sym c.is_nothing.ensures ∙ c.if-is_nothing.true) in
-    let rests : RestsBy s.stage c.args.now.0 s c.rest-step.result t = subst (λ (x : StreamState). RestsBy s.stage c.args.now.0 s c.rest-step.result x) (sym c.self-in-None.view_is) c.rest-step.ensures in
+    let nothing : c.rest-step.result.0 ≡ steps.Nothing = nothing_is c.rest-step.result.0 (sym c.is_nothing.ensures ∙ c.if-is_nothing.true) in
+    let rests : RestsBy s.stage c.args.now.0 s c.rest-step.result.0 t = subst (λ (x : StreamState). RestsBy s.stage c.args.now.0 s c.rest-step.result.0 x) (sym c.self-in-None.view_is) c.rest-step.ensures.rests in
     let same : length t.receiver.packets.buffer.held ≡ length c.self.inside.receiver.packets.buffer.held = grind (arith, nat_tests, c.if-held.true, c.held.ensures, c.held-held.ensures) in
     let work : c.find_work-work.result ≡ work_deadline t = subst (λ (x : StreamState). c.find_work-work.result ≡ work_deadline x) (sym c.self-in-None.view_is) c.find_work-work.ensures in
     let rest : RestsUntil c.quiet_time-until.result c.args.now.0 t = subst (λ (x : StreamState). RestsUntil c.quiet_time-until.result c.args.now.0 x) (sym c.self-in-None.view_is) c.quiet_time-until.ensures in
@@ -43,26 +44,26 @@ pub returns-then-held : goal.returns-then-held
 returns-then-held c =
     let s : StreamState = record (seen c.self.inside) { receiver = c.pop_unit.new.self } in
     let t : StreamState = seen c.self-in-None.inside in
-    let rests : RestsBy s.stage c.args.now.0 s c.rest-step.result t = subst (λ (x : StreamState). RestsBy s.stage c.args.now.0 s c.rest-step.result x) (sym c.self-in-None.view_is) c.rest-step.ensures in
-    subst (λ (x : StreamState). Pops c.args.now x (step_to c.rest-step.result c.pop_unit.new.unit) t) c.self.view_is
+    let rests : RestsBy s.stage c.args.now.0 s c.rest-step.result.0 t = subst (λ (x : StreamState). RestsBy s.stage c.args.now.0 s c.rest-step.result.0 x) (sym c.self-in-None.view_is) c.rest-step.ensures.rests in
+    subst (λ (x : StreamState). Pops c.args.now x (step_to c.rest-step.result.0 c.pop_unit.new.unit) t) c.self.view_is
     (record {
       told = None;
       receiver = c.pop_unit.new.self;
       pops = c.in-None.ensures.pops;
       refused = tt;
       large = refl;
-      follows = rests_to s.stage c.args.now.0 s t c.rest-step.result c.pop_unit.new.unit rests;
+      follows = rests_to s.stage c.args.now.0 s t c.rest-step.result.0 c.pop_unit.new.unit rests;
     })
 
 pub returns-else-is_nothing : goal.returns-else-is_nothing
 returns-else-is_nothing c =
     let s : StreamState = record (seen c.self.inside) { receiver = c.pop_unit.new.self } in
-    subst (λ (x : StreamState). Pops c.args.now x (step_to c.rest-step.result c.pop_unit.new.unit) c.rest-step.new.self) c.self.view_is
+    subst (λ (x : StreamState). Pops c.args.now x (step_to c.rest-step.result.0 c.pop_unit.new.unit) c.rest-step.new.self) c.self.view_is
     (record {
       told = None;
       receiver = c.pop_unit.new.self;
       pops = c.in-None.ensures.pops;
       refused = tt;
       large = refl;
-      follows = rests_to s.stage c.args.now.0 s c.rest-step.new.self c.rest-step.result c.pop_unit.new.unit c.rest-step.ensures;
+      follows = rests_to s.stage c.args.now.0 s c.rest-step.new.self c.rest-step.result.0 c.pop_unit.new.unit c.rest-step.ensures.rests;
     })

@@ -1,5 +1,5 @@
 use Rattle.std.proofs.Common.{subst, sym}
-use Rattle.codec_payload_receiver.specs.Reports.{reported}
+use Rattle.codec_payload_numbers.specs.Reports.{reported}
 use Rattle.codec_payload_receiver.specs.Sessions.{Session as Receiver}
 use Rattle.codec_payload_session.specs.Quiet.{IsQuietUntil, time_of}
 use Rattle.codec_payload_session.proofs.StillLemmas.{quiet_stays}

@@ -7,4 +7,4 @@ use Rattle.codec_payload_session.proofs.streams.Streams.leave.Goals as goal
 pub invariant_of-self : goal.invariant_of-self
 invariant_of-self c =
     let same = ap ssrcs_of c.leave.ensures ∙ same_mapped (left_if (includes c.args.who) c.args.why c.args.at) c.deref_mut.result.now (λ s. left_ssrc (includes c.args.who s.ssrc) c.args.why c.args.at s) ∙ ap ssrcs_of c.deref_mut.ensures.value in
-    forgotten c.unknown-self-inside.result c.self.inside.ssrcs c.self.inside.dues c.self.inside.list c.leave.new.streams c.unknown-self-inside.ensures c.self.invariant.listed same
+    forgotten c.forget.new.self c.self.inside.ssrcs c.self.inside.list c.leave.new.streams c.forget.ensures c.self.invariant.listed same

@@ -15,4 +15,4 @@ returns-then-not-has_left_behind c =
 pub invariant_of-self : goal.invariant_of-self
 invariant_of-self c =
     let same = ap ssrcs_of c.leave_behind.ensures ∙ same_continued true c.args.now c.args.wait c.args.ssrc c.args.format.now c.deref_mut.result.now ∙ ap ssrcs_of c.deref_mut.ensures.value in
-    forgotten c.unknown-self-inside.result c.self.inside.ssrcs c.self.inside.dues c.self.inside.list c.leave_behind.new.streams c.unknown-self-inside.ensures c.self.invariant.listed same
+    forgotten c.forget.new.self c.self.inside.ssrcs c.self.inside.list c.leave_behind.new.streams c.forget.ensures c.self.invariant.listed same

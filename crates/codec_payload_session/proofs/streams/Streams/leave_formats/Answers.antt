@@ -12,7 +12,7 @@ use Rattle.codec_payload_session.proofs.streams.Streams.leave_formats.Goals as g
 pub invariant_of-self : goal.invariant_of-self
 invariant_of-self c =
     let same = ssrcs_stay c.args.formats.now c.args.at c.deref_mut.result.now c.leave_formats.new.streams c.leave_formats.ensures ∙ ap ssrcs_of c.deref_mut.ensures.value in
-    forgotten c.unknown-self-inside.result c.self.inside.ssrcs c.self.inside.dues c.self.inside.list c.leave_formats.new.streams c.unknown-self-inside.ensures c.self.invariant.listed same
+    forgotten c.forget.new.self c.self.inside.ssrcs c.self.inside.list c.leave_formats.new.streams c.forget.ensures c.self.invariant.listed same
 
 pub returns : goal.returns
 returns c =

@@ -2,7 +2,7 @@ use Rattle.std.proofs.Common.{◌≡◌, ◌∙◌, ◌<◌, ℕ, List, length, 
 use Rattle.std.specs.List.{remove}
 use Rattle.codec_payload_session.specs.Arrivals.{Port}
 use Rattle.codec_payload_session.specs.Waking.{ssrcs_of}
-use Rattle.codec_payload_session.proofs.DeadlineLemmas.{none_dated}
+use Rattle.codec_payload_session.proofs.WakingLemmas.{says_bound}
 use Rattle.codec_payload_session.proofs.SsrcLemmas.{count_of, of_removed}
 use Rattle.codec_payload_session.proofs.streams.Streams.remove.Goals as goal
 
@@ -17,7 +17,6 @@ pub invariant_of-self : goal.invariant_of-self
 invariant_of-self c =
     let ss = c.self.inside.list.items in
     record {
-      bound = c.unknown-self-inside.ensures.bound c.remove-gone.new.self.items;
-      dated = none_dated c.unknown-self-inside.result c.self.inside.dues c.remove-gone.new.self.items c.unknown-self-inside.ensures;
+      bound = says_bound c.forget.new.self c.remove-gone.new.self.items c.forget.ensures;
       listed = c.remove.ensures ∙ ap (λ (l : List ℕ). remove l c.args.place) c.self.invariant.listed ∙ sym (of_removed ss c.args.place) ∙ sym (ap ssrcs_of c.remove-gone.ensures.items);
     }

@@ -20,4 +20,4 @@ pub invariant_of-self : goal.invariant_of-self
 invariant_of-self c =
     let round = c.next_round-round.result in
     let same = ap ssrcs_of c.start_fractions.ensures ∙ same_reported round.is_new round.room c.deref_mut.result.now ∙ ap ssrcs_of c.deref_mut.ensures.value in
-    forgotten c.unknown-self-inside.result c.self.inside.ssrcs c.self.inside.dues c.self.inside.list c.start_fractions.new.streams c.unknown-self-inside.ensures c.self.invariant.listed same
+    forgotten c.forget.new.self c.self.inside.ssrcs c.self.inside.list c.start_fractions.new.streams c.forget.ensures c.self.invariant.listed same

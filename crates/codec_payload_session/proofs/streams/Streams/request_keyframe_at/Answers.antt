@@ -2,7 +2,7 @@ use Rattle.std.proofs.Common.{◌≡◌, ◌∙◌, ◌<◌, ℕ, List, Some, le
 use Rattle.codec_payload_session.specs.Arrivals.{Port}
 use Rattle.codec_payload_session.specs.Keyframes.{answer_among, asked_among, asked_with}
 use Rattle.codec_payload_session.specs.Streams.{StreamState}
-use Rattle.codec_payload_session.proofs.DeadlineLemmas.{none_dated}
+use Rattle.codec_payload_session.proofs.WakingLemmas.{says_bound}
 use Rattle.codec_payload_session.proofs.KeyframeLemmas.{answer_at, asked_at, asked_ssrc}
 use Rattle.codec_payload_session.proofs.SsrcLemmas.{same_set}
 use Rattle.codec_payload_session.proofs.streams.Streams.request_keyframe_at.Goals as goal
@@ -12,8 +12,7 @@ invariant_of-self c =
     let ss = c.self.inside.list.items in
     let within : c.args.place < length ss = subst (λ (p : Port). c.args.place < length p.streams) (sym c.self.view_is) c.requires in
     record {
-      bound = c.unknown-self-inside.ensures.bound _;
-      dated = none_dated c.unknown-self-inside.result c.self.inside.dues _ c.unknown-self-inside.ensures;
+      bound = says_bound _ _ c.forget.ensures;
       listed = c.self.invariant.listed ∙ sym (same_set ss c.args.place c.index_mut.result.now c.request_keyframe.new.self within c.index_mut.ensures.value
           (ap (λ (s : StreamState). s.ssrc) c.request_keyframe.ensures.after ∙ asked_ssrc c.index_mut.result.now));
     }

@@ -6,9 +6,7 @@ use Rattle.codec_payload_session.specs.Turns.{StepsFirst}
 use Rattle.codec_payload_session.specs.Units.{Turn, turn_to}
 use Rattle.codec_payload_session.specs.Waking.{StepsPort}
 use Rattle.codec_payload_session.specs.declared.stream.StreamState.{StreamState}
-use Rattle.codec_payload_session.specs.Dues.{AreDated}
 use Rattle.codec_payload_session.specs.Waking.{ssrcs_of}
-use Rattle.codec_payload_session.proofs.DeadlineLemmas.{dated_changed}
 use Rattle.codec_payload_session.proofs.SsrcLemmas.{kept, step_ssrcs}
 use Rattle.codec_payload_session.proofs.WakingLemmas.{steps_length, steps_port}
 use Rattle.codec_payload_session.proofs.streams.Streams.step.Goals as goal
@@ -31,6 +29,4 @@ pub invariant_of-self : goal.invariant_of-self
 invariant_of-self c =
     let turn : Option Turn = turn_to c.step_excepted.result c.step_excepted.new.unit in
     let same = step_ssrcs c.args.now c.args.idle_timeout c.deref_mut.result.now turn c.step_excepted.new.streams c.step_excepted.ensures.first ∙ ap ssrcs_of c.deref_mut.ensures.value in
-    let before : AreDated c.self.inside.waking c.self.inside.dues c.deref_mut.result.now = subst (λ (l : List StreamState). AreDated c.self.inside.waking c.self.inside.dues l) (sym c.deref_mut.ensures.value) c.self.invariant.dated in
-    let dated = dated_changed c.self.inside.waking c.self.inside.dues c.deref_mut.result.now c.step_excepted.new.streams c.step_excepted.ensures.others before in
-    kept c.self.inside.waking c.self.inside.ssrcs c.self.inside.dues c.self.inside.list c.step_excepted.new.streams c.step_excepted.ensures.bound dated c.self.invariant.listed same
+    kept c.self.inside.waking c.self.inside.ssrcs c.self.inside.list c.step_excepted.new.streams c.step_excepted.ensures.bound c.self.invariant.listed same

@@ -1,6 +1,6 @@
 use Rattle.std.proofs.Common.{◌≡◌, ◌<◌, ◌∙◌, Option, Some, ap, length, slice_get, subst, sym}
 use Rattle.std.specs.Prelude.{⊤}
-use Rattle.codec_payload_buffer.specs.Release.{Release}
+use Rattle.codec_payload_metadata.specs.Release.{Release}
 use Rattle.codec_payload_session.specs.Arrivals.{Port}
 use Rattle.codec_payload_session.specs.Turns.{after_step, told_by}
 use Rattle.codec_payload_session.specs.Units.{Turn, event_to, step_to}

@@ -1,0 +1,2 @@
+pub mod Rare
+pub mod Release

@@ -1,0 +1,4 @@
+pub mod NotedLemmas
+pub mod NumbersLemmas
+pub mod SeenLemmas
+pub mod TimesLemmas

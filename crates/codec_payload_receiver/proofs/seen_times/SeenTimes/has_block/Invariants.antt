@@ -1,6 +1,0 @@
-use Rattle.std.proofs.Common.{◌≡◌, drop}
-use Rattle.codec_payload_receiver.specs.SeenTimes.{has_block}
-use Rattle.codec_payload_receiver.proofs.seen_times.SeenTimes.has_block.Given as goal
-
-abbrev pub invariant-loop-place : goal.invariant-loop-place
-invariant-loop-place l = has_block l.time (drop l.place l.self.places) ≡ has_block l.time l.self.places

@@ -1,6 +1,0 @@
-use Rattle.std.proofs.Common.{◌≡◌, drop}
-use Rattle.codec_payload_session.specs.Formats.{role_by}
-use Rattle.codec_payload_session.proofs.formats.role_in.Given as goal
-
-abbrev pub invariant-loop-format : goal.invariant-loop-format
-invariant-loop-format l = role_by (drop l.format-index l.formats) l.no_media l.telephone_events l.payload_type ≡ role_by l.formats l.no_media l.telephone_events l.payload_type

@@ -1,0 +1,4 @@
+pub mod Checks
+pub mod Formats
+pub mod Names
+pub mod Sorting

@@ -1,0 +1,4 @@
+pub mod Late
+pub mod Named
+pub mod Requests
+pub mod Transports
