@@ -7,11 +7,11 @@ use Rattle.codec_payload_jitter.specs.Missing.{missing_numbers}
 use Rattle.codec_payload_jitter.specs.declared.waiting.WaitLimits.{WaitLimits}
 use Rattle.codec_payload_session.specs.Ports.{receiver_among, taken_in, waits_of}
 use Rattle.codec_payload_session_requests.specs.Requests.{request_counts_of, round_trip_of}
-use Rattle.codec_payload_session.specs.Streams.{is_of}
-use Rattle.codec_payload_session.specs.declared.stream.Stage.{Stage}
-use Rattle.codec_payload_session.specs.declared.stream.Stage.TheVariants as stages
-use Rattle.codec_payload_session.specs.declared.stream.StreamInfo.{StreamInfo}
-use Rattle.codec_payload_session.specs.declared.stream.StreamState.{StreamState}
+use Rattle.codec_payload_session_stream.specs.Streams.{is_of}
+use Rattle.codec_payload_session_stream.specs.declared.stream.Stage.{Stage}
+use Rattle.codec_payload_session_stream.specs.declared.stream.Stage.TheVariants as stages
+use Rattle.codec_payload_session_stream.specs.declared.stream.StreamInfo.{StreamInfo}
+use Rattle.codec_payload_session_stream.specs.declared.stream.StreamState.{StreamState}
 use Rattle.codec_payload_receiver.specs.Sessions.{Session as Receiver}
 use Rattle.codec_payload_c.specs.Sessions.{ending_number}
 use Rattle.codec_payload_c.specs.Inspect.{given_if}

@@ -12,7 +12,7 @@ use crate::session::number_of;
 use codec_payload_handle::handle::Handle;
 use codec_payload_handle::object::{Object, PortSession};
 use codec_payload_handle::status;
-use codec_payload_session::stream::{Stage, StreamInfo};
+use codec_payload_session_stream::stream::{Stage, StreamInfo};
 use std::alloc::Global;
 
 /// Counts of datagrams by result, each modulo 2^64.

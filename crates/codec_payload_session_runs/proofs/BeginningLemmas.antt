@@ -15,37 +15,37 @@ use Rattle.codec_payload_rtcp.specs.RtcpReading.{compound_at}
 use Rattle.codec_payload_rtcp.specs.declared.packet.RtcpError.{RtcpError}
 use Rattle.codec_payload_session.specs.Keyframes.{asked_among, asked_with}
 use Rattle.codec_payload_session.specs.Accepting.{Accepts, noted_in, time_for}
-use Rattle.codec_payload_session.specs.Arrivals.{Arrives, BeginsIf, BeginsOrFeeds, BeginsWith, Feeds, FeedsIf, Port, TakesInAs, TakesMedia, arrival_of, goodbye_at, has_place, left_if, left_where, on_probation, without, has_ssrc}
+use Rattle.codec_payload_session_stream.specs.Arrivals.{Arrives, arrival_of}
+use Rattle.codec_payload_session.specs.Arrivals.{BeginsIf, BeginsOrFeeds, BeginsWith, Feeds, FeedsIf, Port, TakesInAs, TakesMedia, goodbye_at, has_place, left_if, left_where, on_probation, without, has_ssrc}
 use Rattle.codec_payload_session.specs.Associations.{AssociatesBy, pair_at}
-use Rattle.codec_payload_session.specs.Changes.{continued, continues, is_left_behind}
-use Rattle.codec_payload_session.specs.Pairs.{Pairs, paired_if, paired_where, with_pair}
+use Rattle.codec_payload_session_stream.specs.Changes.{continued, continues, is_left_behind}
+use Rattle.codec_payload_session.specs.Pairs.{Pairs}
+use Rattle.codec_payload_session_stream.specs.Pairs.{paired_if, paired_where, with_pair}
 use Rattle.codec_payload_session.specs.Polls.{GoesOn, PollsAfter, SendsAfter}
-use Rattle.codec_payload_session.specs.Ports.{Receives, Session, everyone}
-use Rattle.codec_payload_session.specs.Ports.{ReportsIf as ReportsPlace}
-use Rattle.codec_payload_session.specs.Reporting.{all_reported, is_chosen, reported_if, room_after}
-use Rattle.codec_payload_session.specs.Reports.{noted, noted_at, reported_by}
-use Rattle.codec_payload_session.specs.Reports.{noted_in as clocks_in}
+use Rattle.codec_payload_session.specs.Ports.{Receives, Session, everyone, ReportsIf as ReportsPlace}
+use Rattle.codec_payload_session.specs.Reporting.{all_reported, is_chosen, room_after}
+use Rattle.codec_payload_session_stream.specs.Reports.{reported_if, noted, noted_at, reported_by, noted_in as clocks_in}
 use Rattle.codec_payload_session_formats.specs.Sorting.{Sorted, sorted_at}
 use Rattle.codec_payload_session_formats.specs.Sorting as sorted
-use Rattle.codec_payload_session.specs.Streams.{Takes, accepted_after, heard_unless, is_accepted, is_no_memory, is_of, is_probation, late_followed, left_when, received, stage_after, waiting_if, asked_for, asked_unless, is_ending}
-use Rattle.codec_payload_session.specs.Turns.{AreQuiet, TakesTurn, kept_after}
-use Rattle.codec_payload_session.specs.Units.{Event}
+use Rattle.codec_payload_session_stream.specs.Streams.{Takes, accepted_after, heard_unless, is_accepted, is_no_memory, is_of, is_probation, late_followed, left_when, received, stage_after, waiting_if, asked_for, asked_unless, is_ending}
+use Rattle.codec_payload_session_stream.specs.Turns.{AreQuiet}
+use Rattle.codec_payload_session.specs.Turns.{TakesTurn, kept_after}
+use Rattle.codec_payload_session_stream.specs.Units.{Event}
 use Rattle.codec_payload_session_formats.specs.declared.formats.Format.{Format}
 use Rattle.codec_payload_session_formats.specs.declared.formats.SessionSettings.{SessionSettings}
 use Rattle.codec_payload_session_formats.specs.declared.formats.SsrcPair.{SsrcPair}
-use Rattle.codec_payload_session.specs.declared.session.Arrival.{Arrival}
-use Rattle.codec_payload_session.specs.declared.session.Arrival.TheVariants as arrivals
-use Rattle.codec_payload_session.specs.declared.session.Event.TheVariants as events
-use Rattle.codec_payload_session.specs.declared.stream.Ending.{Ending}
-use Rattle.codec_payload_session.specs.declared.stream.Ending.TheVariants as endings
-use Rattle.codec_payload_session.specs.declared.stream.Stage.{Stage}
-use Rattle.codec_payload_session.specs.declared.stream.Stage.TheVariants as stages
-use Rattle.codec_payload_session.specs.declared.stream.StreamState.{StreamState}
+use Rattle.codec_payload_session_stream.specs.declared.arrival.Arrival.{Arrival}
+use Rattle.codec_payload_session_stream.specs.declared.arrival.Arrival.TheVariants as arrivals
+use Rattle.codec_payload_session_stream.specs.declared.events.Event.TheVariants as events
+use Rattle.codec_payload_session_stream.specs.declared.stream.Ending.{Ending}
+use Rattle.codec_payload_session_stream.specs.declared.stream.Ending.TheVariants as endings
+use Rattle.codec_payload_session_stream.specs.declared.stream.Stage.{Stage}
+use Rattle.codec_payload_session_stream.specs.declared.stream.Stage.TheVariants as stages
+use Rattle.codec_payload_session_stream.specs.declared.stream.StreamState.{StreamState}
 use Rattle.codec_payload_session_runs.proofs.EndingCallLemmas.{apart_paired, both_same, paired_same, reported_same, waited_same}
 use Rattle.codec_payload_session_runs.proofs.EndingLemmas.{Same, steps_asked}
 use Rattle.codec_payload_session_runs.proofs.FateLemmas.{AreApart, found_none, of_is, of_same}
-use Rattle.codec_payload_session_runs.proofs.ReachedLemmas.{Reached, by_streams, reached, reached_more}
-use Rattle.codec_payload_session_runs.proofs.ReachedLemmas.{Same as SameOrReported}
+use Rattle.codec_payload_session_runs.proofs.ReachedLemmas.{Reached, by_streams, reached, reached_more, Same as SameOrReported}
 use Rattle.codec_payload_session_runs.proofs.StreamLemmas.{Kind, keeps_left, steps_stepped}
 use Rattle.codec_payload_session_runs.specs.Endings.{HasBegun, HasRoom, NoEnd, RunsWithRoom, TwoDatagramsBegin, accepted_as, ends_it, is_accepted_by, is_end_of}
 use Rattle.codec_payload_session_runs.specs.Lives.{IsAbsent, events_by, is_same, one_event}

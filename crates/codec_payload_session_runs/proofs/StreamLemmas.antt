@@ -11,23 +11,24 @@ use Rattle.codec_payload_receiver.specs.Sessions.{Session as Receiver}
 use Rattle.codec_payload_receiver.specs.declared.pops.Popped.{Popped}
 use Rattle.codec_payload_receiver.specs.declared.pops.Popped.TheVariants as popped
 use Rattle.codec_payload_receiver.specs.declared.receiver.ReceiveError.{ReceiveError}
-use Rattle.codec_payload_session.specs.Arrivals.{Arrives, arrival_of}
+use Rattle.codec_payload_session_stream.specs.Arrivals.{Arrives, arrival_of}
 use Rattle.codec_payload_session_formats.specs.Formats.{retransmission_for}
 use Rattle.codec_payload_session_requests.specs.Late.{limit_by}
-use Rattle.codec_payload_session.specs.Pairs.{paired, paired_when}
+use Rattle.codec_payload_session_stream.specs.Pairs.{paired, paired_when}
 use Rattle.codec_payload_session_formats.specs.Names.{names_after}
 use Rattle.codec_payload_session_requests.specs.Requests.{Asking, answered_if, heard_by, number_at, wait_by}
-use Rattle.codec_payload_session.specs.Streams.{Drains, Follows, Plays, RequestsBy, RestsBy, Steps, StepsBy, Takes, accepted_after, end_of, heard_unless, is_accepted, is_keyframe, is_no_memory, is_probation, late_followed, late_noted, left_when, received, stage_after, stage_left, step_of, step_with, waiting_for}
-use Rattle.codec_payload_session.specs.Turns.{event_of, kept_after}
+use Rattle.codec_payload_session_stream.specs.Streams.{Drains, Follows, Plays, RequestsBy, RestsBy, Steps, StepsBy, Takes, accepted_after, end_of, heard_unless, is_accepted, is_keyframe, is_no_memory, is_probation, late_followed, late_noted, left_when, received, stage_after, stage_left, step_of, step_with, waiting_for}
+use Rattle.codec_payload_session_stream.specs.Turns.{event_of}
+use Rattle.codec_payload_session.specs.Turns.{kept_after}
 use Rattle.codec_payload_session_formats.specs.declared.formats.Format.{Format}
 use Rattle.codec_payload_session_formats.specs.declared.formats.SsrcPair.{SsrcPair}
-use Rattle.codec_payload_session.specs.declared.session.Arrival.{Arrival}
-use Rattle.codec_payload_session.specs.Units.{Event}
-use Rattle.codec_payload_session.specs.declared.session.Event.TheVariants as events
-use Rattle.codec_payload_session.specs.declared.stream.Ending.{Ending}
-use Rattle.codec_payload_session.specs.declared.stream.Stage.{Stage}
-use Rattle.codec_payload_session.specs.declared.stream.Stage.TheVariants as stages
-use Rattle.codec_payload_session.specs.declared.stream.StreamState.{StreamState}
+use Rattle.codec_payload_session_stream.specs.declared.arrival.Arrival.{Arrival}
+use Rattle.codec_payload_session_stream.specs.Units.{Event}
+use Rattle.codec_payload_session_stream.specs.declared.events.Event.TheVariants as events
+use Rattle.codec_payload_session_stream.specs.declared.stream.Ending.{Ending}
+use Rattle.codec_payload_session_stream.specs.declared.stream.Stage.{Stage}
+use Rattle.codec_payload_session_stream.specs.declared.stream.Stage.TheVariants as stages
+use Rattle.codec_payload_session_stream.specs.declared.stream.StreamState.{StreamState}
 use Rattle.codec_payload_session_runs.proofs.AloneLemmas.{finishes_append, made_append, poll_of, pops_append, runs_append, shown_append}
 use Rattle.codec_payload_session_runs.specs.Lives.{AreMadeBy, AreOfOne, HasNoPair, HasSsrcOf, IsGiven, IsPart, ReceiverCall, RunsAlone, events_by, events_in, finishes, follows, given_by, is_same, many_finishes, many_pops, one_call, one_event, pairs, pops, receives, released_by, reports, shown, shown_in, waits, with_shown}
 use Rattle.codec_payload_session_runs.specs.SessionRuns.{Call}
