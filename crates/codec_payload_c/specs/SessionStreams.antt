@@ -60,6 +60,7 @@ end_time (stages.Draining why) = 0
 -- the description of a stream
 pub record TellsStream (s : StreamState) (i : SessionStream) : Type 0 where
   pub taken : i.taken ≡ s.taken
+  pub bytes : i.bytes ≡ s.bytes
   pub ends_at : i.ends_at ≡ end_time s.stage
   pub ssrc_is : i.ssrc ≡ s.ssrc
   pub stage : i.stage ≡ stage_number s.stage
@@ -74,6 +75,7 @@ pub record TellsStream (s : StreamState) (i : SessionStream) : Type 0 where
 -- the same from what a session says of a stream
 pub record DescribesStream (info : StreamInfo) (counts : ReceiverCountsInfo) (i : SessionStream) : Type 0 where
   pub taken : i.taken ≡ info.taken
+  pub bytes : i.bytes ≡ info.bytes
   pub ends_at : i.ends_at ≡ end_time info.stage
   pub ssrc_is : i.ssrc ≡ info.ssrc
   pub stage : i.stage ≡ stage_number info.stage

@@ -28,8 +28,9 @@ use Rattle.codec_payload_session_formats.specs.Sorting.{Sorted, sorted_at}
 use Rattle.codec_payload_receiver.specs.Sessions.{Session as Receiver}
 use Rattle.codec_payload_session_requests.specs.Late.{limit_by}
 use Rattle.codec_payload_session_formats.specs.Names.{names_after}
+use Rattle.codec_payload_rtp.specs.RtpReading.{rtp_at}
 use Rattle.codec_payload_session_requests.specs.Requests.{Asking, heard_by, number_at, wait_by}
-use Rattle.codec_payload_session_stream.specs.Streams.{Drains, Follows, Plays, RequestsBy, RestsBy, Steps, StepsBy, Takes, end_of, heard_unless, is_accepted, is_no_memory, is_of, is_probation, late_followed, late_noted, left_when, received, waiting_for, waiting_if, waiting_when, waiting_where}
+use Rattle.codec_payload_session_stream.specs.Streams.{Drains, Follows, Plays, RequestsBy, RestsBy, Steps, StepsBy, Takes, end_of, heard_unless, is_accepted, is_no_memory, is_of, is_probation, late_followed, late_noted, left_when, payload_size, received, waiting_for, waiting_if, waiting_when, waiting_where}
 use Rattle.codec_payload_session_stream.specs.Turns.{AreQuiet}
 use Rattle.codec_payload_session.specs.Turns.{TakesTurn, ended_after, kept_after}
 use Rattle.codec_payload_session_formats.specs.declared.formats.Format.{Format}
@@ -117,7 +118,7 @@ takes_taken now probation bytes s told t got = ap (λ (x : StreamState). x.taken
     same : (late_followed (is_ok told) now.0 bytes (received now.0 bytes (is_accepted told) got.0 s)).taken ≡ s.taken
     same = late_taken (is_ok told) now.0 bytes (received now.0 bytes (is_accepted told) got.0 s) ∙ received_taken now.0 bytes (is_accepted told) got.0 s
 
-    by_test : (b : Bool) → (heard_unless b now.0 probation (is_accepted told) (late_followed (is_ok told) now.0 bytes (received now.0 bytes (is_accepted told) got.0 s))).taken ≡ taken_unless b s.taken
+    by_test : (b : Bool) → (heard_unless b now.0 probation (is_accepted told) (payload_size (rtp_at bytes)) (late_followed (is_ok told) now.0 bytes (received now.0 bytes (is_accepted told) got.0 s))).taken ≡ taken_unless b s.taken
     by_test true = same
     by_test false = ap next same
 

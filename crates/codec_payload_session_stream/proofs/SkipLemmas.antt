@@ -198,6 +198,7 @@ seen s = record {
   told = s.told;
   taken = s.taken;
   accepted = s.accepted;
+  bytes = s.bytes;
   last = s.last;
   feedback = s.feedback;
   late = unboxed s.late;

@@ -20,6 +20,9 @@ use Rattle.codec_payload_receiver.specs.declared.receiver.Counters.{Counters}
 use Rattle.codec_payload_receiver.specs.declared.receiver.ReceiveError.{ReceiveError}
 use Rattle.codec_payload_receiver.specs.declared.receiver.ReceiveError.TheVariants as errors
 use Rattle.codec_payload_receiver.specs.declared.receiver.Settings.{Settings}
+use Rattle.codec_payload_rtp.specs.RtpPackets.{Packet}
+use Rattle.codec_payload_rtp.specs.RtpReading.{rtp_at}
+use Rattle.codec_payload_rtp.specs.declared.rtp.RtpError.{RtpError}
 use Rattle.codec_payload_session_formats.specs.Formats.{HasSettings, is_video, limits_for}
 use Rattle.codec_payload_session_requests.specs.Late.{late_after, late_for, limit_by, number_at as late_number}
 use Rattle.codec_payload_session_formats.specs.Names.{are_of_one, names_after, no_names}
@@ -41,7 +44,7 @@ use Rattle.codec_payload_session_stream.specs.declared.reports.SenderClock.{Send
 use Rattle.codec_payload_session_stream.specs.declared.stream.StreamInfo.{StreamInfo}
 
 -- a stream, as contracts see it: its SSRC and format; its receiver; its stage; whether it was announced; how many datagrams it
--- took, and how many of them were accepted; when the latest one arrived; what it requests; how late its missing packets arrive, if
+-- took, how many of them were accepted, and how many bytes of payload they had; when the latest one arrived; what it requests; how late its missing packets arrive, if
 -- waiting follows that; the clock of its sender; whether this round of reports had a block about it; which header extensions have its
 -- names, and the names that its accepted packets had
 pub record StreamState : Type 0 where
@@ -52,6 +55,7 @@ pub record StreamState : Type 0 where
   pub told : Bool
   pub taken : ℕ
   pub accepted : ℕ
+  pub bytes : ℕ
   pub last : ℕ
   pub feedback : Option Asking
   pub late : Option Wait
@@ -73,6 +77,7 @@ pub record Begins (settings : SessionSettings) (ssrc : ℕ) (f : Format) (s : St
   pub told : s.told ≡ false
   pub taken : s.taken ≡ 0
   pub accepted : s.accepted ≡ 0
+  pub bytes : s.bytes ≡ 0
   pub last : s.last ≡ 0
   pub feedback : s.feedback ≡ feedback_by settings.feedback ssrc f (limits_for settings (is_video f.spec.codec)).max_wait
   pub late : s.late ≡ late_for settings f
@@ -124,18 +129,24 @@ accepted_after false n = n
 abbrev pub stage_after : ℕ → ℕ → Stage → Stage
 stage_after probation accepted stage = if is_probation stage && nat_le probation accepted then stages.Playing else stage
 
+-- the number of bytes of payload of a packet, without padding
+abbrev pub payload_size : Result Packet RtpError → ℕ
+payload_size (Ok p) = length p.payload
+payload_size (Err e) = 0
+
 -- one more datagram was received at this time
-abbrev pub heard : ℕ → ℕ → Bool → StreamState → StreamState
-heard now probation accepted s = record s {
+abbrev pub heard : ℕ → ℕ → Bool → ℕ → StreamState → StreamState
+heard now probation accepted size s = record s {
   taken = next s.taken;
+  bytes = (s.bytes + size) % 2 ^ 64;
   last = now;
   accepted = accepted_after accepted s.accepted;
   stage = stage_after probation (accepted_after accepted s.accepted) s.stage;
 }
 
-abbrev pub heard_unless : Bool → ℕ → ℕ → Bool → StreamState → StreamState
-heard_unless true now probation accepted s = s
-heard_unless false now probation accepted s = heard now probation accepted s
+abbrev pub heard_unless : Bool → ℕ → ℕ → Bool → ℕ → StreamState → StreamState
+heard_unless true now probation accepted size s = s
+heard_unless false now probation accepted size s = heard now probation accepted size s
 
 -- frames wait for at most that time
 abbrev pub waiting_for : Option ℕ → StreamState → StreamState
@@ -165,7 +176,7 @@ received now bytes false r s = record s { receiver = r }
 abbrev pub Takes : Ticks → ℕ → List ℕ → StreamState → Result Outcome ReceiveError → StreamState → Type 0
 Takes now probation bytes s answer t =
     (r : Receiver) × ReceivesBytes now bytes s.receiver answer r
-    × (t ≡ heard_unless (is_no_memory answer) now.0 probation (is_accepted answer) (late_followed (is_ok answer) now.0 bytes (received now.0 bytes (is_accepted answer) r s)))
+    × (t ≡ heard_unless (is_no_memory answer) now.0 probation (is_accepted answer) (payload_size (rtp_at bytes)) (late_followed (is_ok answer) now.0 bytes (received now.0 bytes (is_accepted answer) r s)))
 
 -- the stream is announced, and has the names of this sender under another SSRC
 abbrev pub is_former : ℕ → StreamNames → StreamState → Bool
@@ -363,6 +374,7 @@ pub record IsInfo (s : StreamState) (i : StreamInfo) : Type 0 where
   pub payload_type : i.payload_type ≡ s.format.payload_type
   pub stage : i.stage ≡ s.stage
   pub taken : i.taken ≡ s.taken
+  pub bytes : i.bytes ≡ s.bytes
   pub held : i.held ≡ length s.receiver.packets.buffer.held
   pub counters : HasCounters s.receiver i.counters
   pub round_trip : i.round_trip ≡ round_trip_of s.feedback
@@ -388,6 +400,7 @@ info_of s = record {
   payload_type = s.format.payload_type;
   stage = s.stage;
   taken = s.taken;
+  bytes = s.bytes;
   held = length s.receiver.packets.buffer.held;
   counters = counters_of s.receiver;
   round_trip = round_trip_of s.feedback;

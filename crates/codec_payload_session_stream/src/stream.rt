@@ -8,7 +8,8 @@ ghost use Rattle.codec_payload_session_stream.specs.Dues.{key_of};
 ghost use Rattle.codec_payload_session_stream.specs.Pairs.{paired_if};
 ghost use Rattle.codec_payload_session_stream.specs.Quiet.{RestsUntil, or_none, time_of};
 ghost use Rattle.codec_payload_session_requests.specs.Requests.{IsCalm, wait_by};
-ghost use Rattle.codec_payload_session_stream.specs.Streams.{Begins, Drains, IsInfo, Pops, RequestsBy, RestsBy, Steps, Takes, answer_for, asked_for, due_of, earlier, end_of, heard, heard_unless, is_accepted, is_ending, is_former, is_keyframe, is_no_memory, is_of, is_probation, late_followed, left, left_when, received, step_of, step_with, waiting_for, waiting_if, work_deadline};
+ghost use Rattle.codec_payload_rtp.specs.RtpReading.{rtp_at};
+ghost use Rattle.codec_payload_session_stream.specs.Streams.{Begins, Drains, IsInfo, Pops, RequestsBy, RestsBy, Steps, Takes, answer_for, asked_for, due_of, earlier, end_of, heard, heard_unless, is_accepted, is_ending, is_former, is_keyframe, is_no_memory, is_of, is_probation, late_followed, left, left_when, payload_size, received, step_of, step_with, waiting_for, waiting_if, work_deadline};
 ghost use Rattle.codec_payload_session_stream.specs.Turns.{is_nothing};
 ghost use Rattle.codec_payload_session_stream.specs.Units.{step_to};
 ghost use Rattle.codec_payload_session_stream.specs.Waking.{WakesAt, or_max};
@@ -81,6 +82,8 @@ pub struct StreamInfo {
     pub stage: Stage,
     /// How many datagrams it took, modulo 2^64.
     pub taken: u64,
+    /// How many bytes of payload these had, without headers and padding, modulo 2^64: `bytesReceived` of the W3C's statistics.
+    pub bytes: u64,
     /// The number of held packets.
     pub held: usize,
     /// The outcomes of its datagrams.
@@ -105,6 +108,8 @@ pub struct StreamState {
     pub taken: u64,
     /// How many of these datagrams were accepted.
     pub(crate) accepted: u64,
+    /// How many bytes of payload they had.
+    bytes: u64,
     /// When the latest datagram arrived.
     pub(crate) last: u64,
     /// What it requests. `None`: nothing.
@@ -141,6 +146,7 @@ impl Model for StreamState {
       told = s.told;
       taken = s.taken;
       accepted = s.accepted;
+      bytes = s.bytes;
       last = s.last;
       feedback = s.feedback;
       late = unboxed s.late;
@@ -204,6 +210,7 @@ impl StreamState {
             told: false,
             taken: 0,
             accepted: 0,
+            bytes: 0,
             last: 0,
             feedback,
             late,
@@ -244,10 +251,9 @@ impl StreamState {
         self.quiet_until = 0;
         let answer = self.receiver.receive(now, datagram);
         let accepted = is_accepted(&answer);
-        let no_memory = is_no_memory(&answer);
         self.hear_if(accepted, now, datagram);
         self.follow_if(answer.is_ok(), now, datagram);
-        self.note_unless(no_memory, now, probation, accepted);
+        self.note_answer(&answer, now, probation, datagram);
         answer
     }
 
@@ -285,11 +291,17 @@ impl StreamState {
 
     /// Counts one more datagram, unless memory ran out for it.
     #[inline(always)]
-    fn note_unless(&mut self, no_memory: bool, now: Ticks, probation: u64, accepted: bool)
-        ensures { self.new ≡ heard_unless no_memory now.0 probation accepted self.old }
+    fn note_answer(
+        &mut self,
+        answer: &Result<Outcome, ReceiveError>,
+        now: Ticks,
+        probation: u64,
+        datagram: &ParsedDatagram<'_>,
+    )
+        ensures { self.new ≡ heard_unless (is_no_memory answer.now) now.0 probation (is_accepted answer.now) (payload_size (rtp_at datagram.now)) self.old }
     {
-        if !no_memory {
-            self.note(now, probation, accepted);
+        if !is_no_memory(answer) {
+            self.note(now, probation, is_accepted(answer), size_of(datagram));
         }
     }
 
@@ -315,13 +327,14 @@ impl StreamState {
         }
     }
 
-    /// Counts one more datagram.
+    /// Counts one more datagram, with so many bytes of payload.
     #[inline(always)]
-    fn note(&mut self, now: Ticks, probation: u64, accepted: bool)
-        ensures { self.new ≡ heard now.0 probation accepted self.old }
+    fn note(&mut self, now: Ticks, probation: u64, accepted: bool, size: u64)
+        ensures { self.new ≡ heard now.0 probation accepted size self.old }
     {
         self.quiet_until = 0;
         self.taken = self.taken.wrapping_add(1);
+        self.bytes = self.bytes.wrapping_add(size);
         self.last = now.0;
         if accepted {
             self.accepted = self.accepted.saturating_add(1);
@@ -649,12 +662,24 @@ impl StreamState {
             payload_type: self.format.payload_type,
             stage: self.stage,
             taken: self.taken,
+            bytes: self.bytes,
             held: self.receiver.inner().held(),
             counters: self.receiver.inner().counters(),
             round_trip: round_trip(&self.feedback),
             requests: request_counts(&self.feedback),
             sender_clock: self.sender_clock,
         }
+    }
+}
+
+/// Returns the number of bytes of payload of an RTP packet, without padding. 0: the datagram is no packet.
+#[inline(always)]
+fn size_of(datagram: &ParsedDatagram<'_>) -> u64
+    ensures { result ≡ payload_size (rtp_at datagram.now) }
+{
+    match datagram.packet() {
+        Ok(packet) => packet.payload.len() as u64,
+        Err(_) => 0,
     }
 }
 

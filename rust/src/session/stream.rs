@@ -69,6 +69,8 @@ pub struct StreamInfo {
     pub stage: Stage,
     /// How many datagrams it took, modulo 2^64.
     pub taken: u64,
+    /// How many bytes of payload these had, without headers and padding, modulo 2^64: `bytesReceived` of the W3C's statistics.
+    pub bytes: u64,
     /// The number of held packets.
     pub held: usize,
     /// The outcomes of its datagrams.
@@ -93,6 +95,8 @@ pub(crate) struct StreamState {
     pub taken: u64,
     /// How many of these datagrams were accepted.
     pub(crate) accepted: u64,
+    /// How many bytes of payload they had.
+    bytes: u64,
     /// When the latest datagram arrived.
     pub(crate) last: u64,
     /// What it requests. `None`: nothing.
@@ -160,6 +164,7 @@ impl StreamState {
             told: false,
             taken: 0,
             accepted: 0,
+            bytes: 0,
             last: 0,
             feedback,
             late,
@@ -194,10 +199,9 @@ impl StreamState {
         self.quiet_until = 0;
         let answer = self.receiver.receive(now, datagram);
         let accepted = is_accepted(&answer);
-        let no_memory = is_no_memory(&answer);
         self.hear_if(accepted, now, datagram);
         self.follow_if(answer.is_ok(), now, datagram);
-        self.note_unless(no_memory, now, probation, accepted);
+        self.note_answer(&answer, now, probation, datagram);
         answer
     }
 
@@ -231,9 +235,15 @@ impl StreamState {
 
     /// Counts one more datagram, unless memory ran out for it.
     #[inline(always)]
-    fn note_unless(&mut self, no_memory: bool, now: Ticks, probation: u64, accepted: bool) {
-        if !no_memory {
-            self.note(now, probation, accepted);
+    fn note_answer(
+        &mut self,
+        answer: &Result<Outcome, ReceiveError>,
+        now: Ticks,
+        probation: u64,
+        datagram: &ParsedDatagram<'_>,
+    ) {
+        if !is_no_memory(answer) {
+            self.note(now, probation, is_accepted(answer), size_of(datagram));
         }
     }
 
@@ -255,11 +265,12 @@ impl StreamState {
         }
     }
 
-    /// Counts one more datagram.
+    /// Counts one more datagram, with so many bytes of payload.
     #[inline(always)]
-    fn note(&mut self, now: Ticks, probation: u64, accepted: bool) {
+    fn note(&mut self, now: Ticks, probation: u64, accepted: bool, size: u64) {
         self.quiet_until = 0;
         self.taken = self.taken.wrapping_add(1);
+        self.bytes = self.bytes.wrapping_add(size);
         self.last = now.0;
         if accepted {
             self.accepted = self.accepted.saturating_add(1);
@@ -537,12 +548,22 @@ impl StreamState {
             payload_type: self.format.payload_type,
             stage: self.stage,
             taken: self.taken,
+            bytes: self.bytes,
             held: self.receiver.inner().held(),
             counters: self.receiver.inner().counters(),
             round_trip: round_trip(&self.feedback),
             requests: request_counts(&self.feedback),
             sender_clock: self.sender_clock,
         }
+    }
+}
+
+/// Returns the number of bytes of payload of an RTP packet, without padding. 0: the datagram is no packet.
+#[inline(always)]
+fn size_of(datagram: &ParsedDatagram<'_>) -> u64 {
+    match datagram.packet() {
+        Ok(packet) => packet.payload.len() as u64,
+        Err(_) => 0,
     }
 }
 
