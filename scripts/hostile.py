@@ -9,8 +9,9 @@ first receives what a peer may send under the same SSRC. In Rust that is a copy 
 wraps the calls. Before the first packet of VP8 of an SSRC comes a frame of VP8 that ends in its payload descriptor (RFC 7741,
 section 4.2), under the number before; it is refused. In place of the answer to each tenth datagram the program gets the answer to a
 malformed one, in turn: RTP of version 0 (RFC 3550, section 5.1), RTCP that is cut short (section 6.4), and, for a stream with RED,
-a RED header without its payload (RFC 2198). Each program must end with status 0, and its counters must have the refused frame and
-the malformed datagrams.
+a RED header without its payload (RFC 2198). A media server forwards by the answers: it would lose the packets. So it gets its own
+answers, and the session the malformed datagrams behind them. Each program must end with status 0, and its counters must have the
+refused frame and the malformed datagrams.
 
 The recorders also write a capture of five frames whose third is refused: four frames are in the file.
 
@@ -30,6 +31,8 @@ ROOT = os.path.dirname(os.path.dirname(os.path.realpath(__file__)))
 ARCHIVE = f"{ROOT}/c/out/libcodec_payload.a"
 # Examples that receive nothing.
 RECEIVE_NOTHING = {"sdp"}
+# Media servers: they forward what the session took.
+FORWARD = {"sfu"}
 # Programs that need a special peer, which tools/chromium/chromium_peer.py is.
 NEED_A_PEER = {"port_peer"}
 
@@ -94,6 +97,11 @@ pub(crate) mod hostile {
         }
     }
 
+    /// The program gets the answers to its own datagrams.
+    pub(crate) fn answers() -> bool {
+        std::env::var("HOSTILE_ANSWERS").is_ok()
+    }
+
     /// Notes what the counters have at the end.
     pub(crate) fn note(line: String) {
         if let Ok(path) = std::env::var("HOSTILE_LOG") {
@@ -142,10 +150,11 @@ impl Session {
             self.receive_plain(now, &frame)?;
         }
         let answer = self.receive_plain(now, datagram);
-        match crate::hostile::instead(datagram, None) {
-            Some(malformed) => self.receive_plain(now, &malformed),
-            None => answer,
-        }
+        let Some(malformed) = crate::hostile::instead(datagram, None) else {
+            return answer;
+        };
+        let told = self.receive_plain(now, &malformed);
+        if crate::hostile::answers() { answer } else { told }
     }
 }
 
@@ -277,7 +286,11 @@ cpay_status __wrap_cpay_session_receive(cpay_session *it, uint64_t now, const ui
     if (more) (void)!__real_cpay_session_receive(it, now, bytes, more, &ignored);
     cpay_status status = __real_cpay_session_receive(it, now, datagram, size, arrival);
     more = instead(it, datagram, size, bytes);
-    return more ? __real_cpay_session_receive(it, now, bytes, more, arrival) : status;
+    if (!more) return status;
+    if (!getenv("HOSTILE_ANSWERS")) return __real_cpay_session_receive(it, now, bytes, more, arrival);
+    /* The program gets the answers to its own datagrams. */
+    (void)!__real_cpay_session_receive(it, now, bytes, more, &ignored);
+    return status;
 }
 
 cpay_status __wrap_cpay_session_poll(cpay_session *it, uint64_t now, cpay_event *event) {
@@ -339,10 +352,11 @@ def faults_of(name, done, log):
         yield f"{name}: {refused} of {kinds['sent'][3]} refused frames are counted"
 
 
-def ran(words, log):
+def ran(name, words, log):
     if os.path.exists(log):
         os.remove(log)
-    return subprocess.run(words, capture_output=True, text=True, check=False, env={**os.environ, "HOSTILE_LOG": log})
+    answers = {"HOSTILE_ANSWERS": "1"} if name in FORWARD else {}
+    return subprocess.run(words, capture_output=True, text=True, check=False, env={**os.environ, "HOSTILE_LOG": log, **answers})
 
 
 def rust_examples(crate, folder):
@@ -352,7 +366,7 @@ def rust_examples(crate, folder):
     for name in sorted(it[:-3] for it in os.listdir(f"{crate}/examples")):
         if name in RECEIVE_NOTHING | NEED_A_PEER:
             continue
-        yield from faults_of(f"rust/examples/{name}.rs", ran([f"{target}/debug/examples/{name}"], log), log)
+        yield from faults_of(f"rust/examples/{name}.rs", ran(name, [f"{target}/debug/examples/{name}"], log), log)
 
 
 def receives(block):
@@ -438,13 +452,14 @@ def c_programs(folder, archive):
     sources = [f"examples/{it}" for it in sorted(os.listdir(f"{ROOT}/examples")) if it.endswith(".c")]
     for source in sources:
         # The recorder needs a capture: it follows below.
-        if os.path.basename(source)[:-2] in {*RECEIVE_NOTHING, "recorder"}:
+        name = os.path.basename(source)[:-2]
+        if name in {*RECEIVE_NOTHING, "recorder"}:
             continue
         said = compiled(f"{ROOT}/{source}", program, folder, archive)
         if said:
             yield f"{source}: {said[-500:]}"
         else:
-            yield from faults_of(source, ran([program], log), log)
+            yield from faults_of(source, ran(name, [program], log), log)
     for block in page_blocks():
         if block.language == "c" and "int main(" in block.text:
             with open(f"{folder}/block.c", "w", encoding="utf-8") as it:
@@ -453,7 +468,7 @@ def c_programs(folder, archive):
             if said:
                 yield f"{block}: {said[-500:]}"
             else:
-                yield from faults_of(str(block), ran([program], log), log)
+                yield from faults_of(str(block), ran("", [program], log), log)
     said = documents.ran([os.environ.get("CC", "cc"), "-std=gnu99", f"-I{ROOT}/include", f"{ROOT}/examples/recorder.c", archive,
                           "-o", program])
     if said:
