@@ -23,6 +23,10 @@ pub mod StoreLemmas
 pub mod StoreReleaseLemmas
 pub mod StoreRunExamples
 pub mod StoreViewerRuns
+pub mod SwitchEvents
+pub mod SwitchLemmas
+pub mod SwitchNumbers
+pub mod SwitchRunExamples
 pub mod ViewerLemmas
 pub mod ViewerReleases
 pub mod ViewerRuns
