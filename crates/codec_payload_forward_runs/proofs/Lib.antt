@@ -27,6 +27,7 @@ pub mod SwitchEvents
 pub mod SwitchLemmas
 pub mod SwitchNumbers
 pub mod SwitchRunExamples
+pub mod SwitchSteps
 pub mod ViewerLemmas
 pub mod ViewerReleases
 pub mod ViewerRuns

@@ -1,8 +1,8 @@
 -- What a forwarder writes that goes over from one source to another: numbers and times.
-use Rattle.std.proofs.Common.{◌≡◌, ◌∙◌, refl, sym, ap, subst, ℕ, suc, ◌+◌, ◌-◌, ◌%◌, ◌<◌, ◌≤◌, ◌^◌, max, List, [], ◌∷◌, ◌++◌, append-nil, Bool, true, false, Option, Some, None, Ok, length, arith}
+use Rattle.std.proofs.Common.{◌≡◌, ◌∙◌, refl, sym, ap, subst, ℕ, suc, ◌+◌, ◌-◌, ◌%◌, ◌<◌, ◌≤◌, ◌^◌, max, List, [], ◌∷◌, ◌++◌, append-nil, Bool, true, false, Option, Some, None, Ok, length, arith, ◌⊎◌, inl, inr}
 use Rattle.std.specs.Prelude.{nat_le, nat_lt, slice_get}
 use Rattle.std.specs.Option.{is_some}
-use Rattle.std.proofs.lemmas.Bool.{eq-eqb, le-ltb, leb-false, leb-true, lt-ltb, ltb-false, ltb-true}
+use Rattle.std.proofs.lemmas.Bool.{eqb-true, le-ltb, leb-false, leb-true, lt-ltb, ltb-false, ltb-true}
 use Rattle.codec_payload_base.specs.Extended.{ahead, nearest}
 use Rattle.codec_payload_base.specs.declared.wire.Codec.{Codec}
 use Rattle.codec_payload_rtp.specs.RtpPackets.{Packet, packet_bytes}
@@ -19,6 +19,7 @@ use Rattle.codec_payload_forward_runs.specs.ForwardReleases.{viewer_packet}
 use Rattle.codec_payload_forward_runs.specs.ForwardRuns.{written_by}
 use Rattle.codec_payload_forward_runs.specs.SwitchReleases.{AreWritten, Continues, IsPacketAt, Reached, Switches, Writing, datagrams_of, writing_of}
 use Rattle.codec_payload_forward_runs.specs.declared.switch_run.Source.{Source}
+use Rattle.codec_payload_forward_runs.specs.declared.switch_run.Source.TheVariants as sources
 
 -- Numbers
 
@@ -59,11 +60,36 @@ still_some : (ahead_is : Bool) (now : ℕ) (last : Option ℕ) → is_some last 
 still_some true now last some = refl
 still_some false now last some = some
 
+-- Sources
+
+abbrev pub ssrc_of : Source → ℕ → ℕ → ℕ
+ssrc_of sources.First a b = a
+ssrc_of sources.Second a b = b
+
+-- whether an SSRC is that of one of the sources
+abbrev pub IsEither : ℕ → ℕ → Option ℕ → Type 0
+IsEither a b source = (is_source source a ≡ true) ⊎ (is_source source b ≡ true)
+
+same_source : (o : Option ℕ) (x y : ℕ) → o ≡ Some x → is_source o y ≡ true → x ≡ y
+same_source o x y is on = eqb-true x y (sym (ap (λ (p : Option ℕ). is_source p y) is) ∙ on)
+
+which : (a b : ℕ) → (a ≡ b → ⊥) → (x y : Source) → ssrc_of x a b ≡ ssrc_of y a b → x ≡ y
+which a b differ sources.First sources.First same = refl
+which a b differ sources.First sources.Second same = absurd (differ same)
+which a b differ sources.Second sources.First same = absurd (differ (sym same))
+which a b differ sources.Second sources.Second same = refl
+
 -- What is known of a forwarder
 
-module _ (codec : Codec) where
+module _ (a b : ℕ) (differ : a ≡ b → ⊥) (codec : Codec) where
+  abbrev On : Option ℕ → Type 0
+  On = IsEither a b
+
   -- a forwarder that forwards one of the sources, and the viewer's stream so far
   pub record IsOn (f : Forward) (r : Reached) : Type 0 where
+    pub source : Source
+    pub source_is : r.source ≡ Some source
+    pub ssrc_is : f.source ≡ Some (ssrc_of source a b)
     pub offset : f.numbers.offset ≡ r.forwarder.numbers.offset
     pub times : f.times.offset ≡ r.forwarder.times.offset
     pub ids : f.ids.offsets ≡ r.forwarder.ids.offsets
@@ -75,8 +101,8 @@ module _ (codec : Codec) where
     pub low : r.lowest % 65536 ≡ (f.numbers.first + f.numbers.offset) % 65536
     pub wrote : is_some f.written_at ≡ true
 
-  -- a forwarder and the viewer's stream so far; `On` says that it forwards one of the sources
-  pub record IsAt (On : Option ℕ → Type 0) (f : Forward) (r : Reached) : Type 0 where
+  -- a forwarder and the viewer's stream so far
+  pub record IsAt (f : Forward) (r : Reached) : Type 0 where
     pub settings : f.settings ≡ r.forwarder.settings
     pub codec_is : f.settings.codec ≡ codec
     pub next : next_number f.numbers ≡ (r.top + 1) % 65536
@@ -84,30 +110,30 @@ module _ (codec : Codec) where
     pub wrote : is_some f.written_at ≡ r.wrote
     pub on : On f.source → IsOn f r
 
-  module _ (On : Option ℕ → Type 0) (first second : List (List ℕ)) where
+  module _ (first second : List (List ℕ)) where
     -- what is written for a packet
     pub record Writes (source : Source) (k : ℕ) (answer : Forwarded) (bytes : List ℕ) (r : Reached) (t : Forward) : Type 0 where
       pub next : Reached
-      pub at : IsAt On t next
+      pub at : IsAt t next
       pub writes : (more : List Writing) (rest : List (List ℕ)) → AreWritten first second next more rest
           → AreWritten first second r (writing_of source k answer ++ more) (written_by answer bytes ++ rest)
 
     writes_nothing : (source : Source) (k : ℕ) (answer : Forwarded) (bytes : List ℕ) (f : Forward) (r : Reached) (t : Forward) → writing_of source k answer ≡ [] → written_by answer bytes ≡ [] → t ≡ f
-        → IsAt On f r → Writes source k answer bytes r t
+        → IsAt f r → Writes source k answer bytes r t
     writes_nothing source k answer bytes f r t none nothing same at = record {
       next = r;
-      at = subst (λ (x : Forward). IsAt On x r) (sym same) at;
+      at = subst (λ (x : Forward). IsAt x r) (sym same) at;
       writes = λ more rest are. subst (λ (ws : List Writing). AreWritten first second r (ws ++ more) (written_by answer bytes ++ rest)) (sym none)
           (subst (λ (bs : List (List ℕ)). AreWritten first second r more (bs ++ rest)) (sym nothing) are);
     }
 
     -- the packet with which the forwarder begins
-    abbrev after_switch : Forward → ℕ → Reached → Forward → Reached
-    after_switch f now r t = record { forwarder = t; lowest = r.top + 1; top = r.top + 1; latest = (r.latest + ticks_between f.written_at now) % 2 ^ 32; wrote = true }
+    abbrev after_switch : Source → Forward → ℕ → Reached → Forward → Reached
+    after_switch source f now r t = record { source = Some source; forwarder = t; lowest = r.top + 1; top = r.top + 1; latest = (r.latest + ticks_between f.written_at now) % 2 ^ 32; wrote = true }
 
-    begun : (source : Source) (k ssrc now : ℕ) (p : Packet) (f : Forward) (bytes : List ℕ) (r : Reached) (t : Forward) → IsOf false ssrc codec p → IsPacketAt (datagrams_of source first second) k p → IsAt On f r
+    begun : (source : Source) (k now : ℕ) (p : Packet) (f : Forward) (bytes : List ℕ) (r : Reached) (t : Forward) → IsOf false (ssrc_of source a b) codec p → IsPacketAt (datagrams_of source first second) k p → IsAt f r
         → t ≡ after_begin now p f → (bytes ≡ packet_bytes (viewer_packet t p)) × (rtp_at bytes ≡ Ok (viewer_packet t p)) → Writes source k answers.Began bytes r t
-    begun source k ssrc now p f bytes r t of there at is written =
+    begun source k now p f bytes r t of there at is written =
         let ticks : ℕ = ticks_between f.written_at now in
         let number : t.numbers ≡ (after_begin now p f).numbers = ap (λ (x : Forward). x.numbers) is in
         let offset : t.numbers.offset ≡ (next_number f.numbers + 65536 - (65536 + p.header.sequence_number) % 65536) % 65536 = ap (λ (x : Forward). x.numbers.offset) is in
@@ -117,7 +143,7 @@ module _ (codec : Codec) where
         let moved : t.times.offset ≡ ((f.times.highest + ticks) % 4294967296 + (4294967296 - p.header.timestamp)) % 4294967296 = ap (λ (x : Forward). x.times.offset) is in
         let latest : t.times.highest ≡ (f.times.highest + ticks) % 4294967296 = ap (λ (x : Forward). x.times.highest) is in
         let settings : t.settings ≡ f.settings = ap (λ (x : Forward). x.settings) is in
-        let next : Reached = after_switch f now r t in
+        let next : Reached = after_switch source f now r t in
         record {
           next = next;
           at = record {
@@ -127,6 +153,9 @@ module _ (codec : Codec) where
             latest = latest ∙ ap (λ (n : ℕ). (n + ticks) % 4294967296) at.latest;
             wrote = ap (λ (x : Forward). is_some x.written_at) is;
             on = λ on. record {
+              source = source;
+              source_is = refl;
+              ssrc_is = ap (λ (x : Forward). x.source) is ∙ ap (λ (n : ℕ). Some n) of.source;
               offset = refl;
               times = refl;
               ids = refl;
@@ -164,10 +193,11 @@ module _ (codec : Codec) where
     abbrev after_more : ℕ → Packet → Reached → Reached
     after_more number p r = record r { top = max r.top number; latest = later r.latest (viewer_packet r.forwarder p).header.timestamp }
 
-    continued : (source : Source) (k ssrc now sent : ℕ) (p : Packet) (f : Forward) (bytes : List ℕ) (r : Reached) (t : Forward) → IsOf false ssrc codec p → IsPacketAt (datagrams_of source first second) k p
-        → IsAt On f r → IsOn f r → On t.source → placed f.numbers (number_in f p) true ≡ places.Sent sent
+    continued : (source : Source) (k now sent : ℕ) (p : Packet) (f : Forward) (bytes : List ℕ) (r : Reached) (t : Forward) → IsOf false (ssrc_of source a b) codec p → IsPacketAt (datagrams_of source first second) k p
+        → IsAt f r → IsOn f r → is_source f.source (ssrc_of source a b) ≡ true → placed f.numbers (number_in f p) true ≡ places.Sent sent
         → t ≡ after_next now p f → (bytes ≡ packet_bytes (viewer_packet t p)) × (rtp_at bytes ≡ Ok (viewer_packet t p)) → Writes source k answers.Written bytes r t
-    continued source k ssrc now sent p f bytes r t of there at on_f on_t place is written =
+    continued source k now sent p f bytes r t of there at on_f is_on place is written =
+        let same_is : on_f.source ≡ source = which a b differ on_f.source source (same_source f.source (ssrc_of on_f.source a b) (ssrc_of source a b) on_f.ssrc_is is_on) in
         let n : ℕ = number_in f p in
         let young = sent_young f.numbers n sent place in
         let near = young_by f.numbers n young in
@@ -199,6 +229,9 @@ module _ (codec : Codec) where
             latest = ap (λ (x : Forward). x.times.highest) is ∙ (ap (λ (h : ℕ). later h (time_as f.times p.header.timestamp)) at.latest ∙ ap (later r.latest) time);
             wrote = some ∙ (sym on_f.wrote ∙ at.wrote);
             on = λ on. record {
+              source = on_f.source;
+              source_is = on_f.source_is;
+              ssrc_is = ap (λ (x : Forward). x.source) is ∙ on_f.ssrc_is;
               offset = offset ∙ on_f.offset;
               times = times ∙ on_f.times;
               ids = ids ∙ on_f.ids;
@@ -228,23 +261,27 @@ module _ (codec : Codec) where
           );
         }
 
+    on_either : (source : Source) (o : Option ℕ) → is_source o (ssrc_of source a b) ≡ true → On o
+    on_either sources.First o is = inl is
+    on_either sources.Second o is = inr is
+
     -- what is done with a packet
-    pub forwards_one : (source : Source) (k ssrc now : ℕ) (p : Packet) (f : Forward) (answer : Forwarded) (bytes : List ℕ) (r : Reached) (t : Forward) → IsOf false ssrc codec p
-        → IsPacketAt (datagrams_of source first second) k p → IsAt On f r → ((o : Option ℕ) → is_source o ssrc ≡ true → On o) → Forwards now p f answer bytes t → Writes source k answer bytes r t
-    forwards_one source k ssrc now p f answer bytes r t of there at on does = by answer does (does_one false ssrc now p f answer bytes t of_codec none does)
+    pub forwards_one : (source : Source) (k now : ℕ) (p : Packet) (f : Forward) (answer : Forwarded) (bytes : List ℕ) (r : Reached) (t : Forward) → IsOf false (ssrc_of source a b) codec p
+        → IsPacketAt (datagrams_of source first second) k p → IsAt f r → Forwards now p f answer bytes t → Writes source k answer bytes r t
+    forwards_one source k now p f answer bytes r t of there at does = by answer does (does_one false (ssrc_of source a b) now p f answer bytes t of_codec none does)
       where
-        of_codec : IsOf false ssrc f.settings.codec p
-        of_codec = subst (λ (c : Codec). IsOf false ssrc c p) (sym at.codec_is) of
+        of_codec : IsOf false (ssrc_of source a b) f.settings.codec p
+        of_codec = subst (λ (c : Codec). IsOf false (ssrc_of source a b) c p) (sym at.codec_is) of
 
-        none : HasNone false ssrc f
-        none is = let on_f = at.on (on f.source is) in (on_f.none_left, λ e. on_f.none_closed)
+        none : HasNone false (ssrc_of source a b) f
+        none is = let on_f = at.on (on_either source f.source is) in (on_f.none_left, λ e. on_f.none_closed)
 
-        by : (a : Forwarded) → Forwards now p f a bytes t → DoesOne ssrc p f a bytes t → Writes source k a bytes r t
-        by answers.Began d one = let w = one.writes bytes refl in begun source k ssrc now p f bytes r t of there at d.4 (w.1, w.2)
+        by : (x : Forwarded) → Forwards now p f x bytes t → DoesOne (ssrc_of source a b) p f x bytes t → Writes source k x bytes r t
+        by answers.Began d one = let w = one.writes bytes refl in begun source k now p f bytes r t of there at d.4 (w.1, w.2)
         by answers.Written d one =
             let w = one.writes bytes refl in
-            let on_f : On f.source = on f.source (subst (λ (n : ℕ). is_source f.source n ≡ true) of.source d.0) in
-            continued source k ssrc now d.1.0 p f bytes r t of there at (at.on on_f) (on t.source w.0) d.1.1 d.2 (w.1, w.2)
+            let is : is_source f.source (ssrc_of source a b) ≡ true = subst (λ (n : ℕ). is_source f.source n ≡ true) of.source d.0 in
+            continued source k now d.1.0 p f bytes r t of there at (at.on (on_either source f.source is)) is d.1.1 d.2 (w.1, w.2)
         by answers.NoKeyframe d one = writes_nothing source k answers.NoKeyframe bytes f r t refl refl d.3.1 at
         by answers.OtherSource d one = writes_nothing source k answers.OtherSource bytes f r t refl refl d.2.1 at
         by answers.TooOld d one = writes_nothing source k answers.TooOld bytes f r t refl refl d.2.1 at

@@ -9,7 +9,7 @@ use Rattle.codec_payload_datagram_runs.specs.WireRunExample.{frames_sent, one_se
 use Rattle.codec_payload_datagram_runs.specs.declared.run.SentSample.{SentSample}
 use Rattle.codec_payload_forward_runs.proofs.SwitchLemmas.{forward_switching}
 use Rattle.codec_payload_forward_runs.specs.ForwardRunExample.{forwarder_for, viewer_receiver}
-use Rattle.codec_payload_forward_runs.specs.SwitchReleases.{AreWritten, BeginsWithNeither, Reached, Writing, events, events_of, reached_by, writings}
+use Rattle.codec_payload_forward_runs.specs.SwitchReleases.{AreWritten, AreTwoSources, Reached, Writing, events, events_of, reached_by, writings}
 use Rattle.codec_payload_forward_runs.specs.SwitchRunExample.{AreNumbered, SwitchesOnce, SwitchingCanBeMet, second_sender, switch_answers, switch_steps, switching_before, two_sent, two_writings}
 use Rattle.codec_payload_forward_runs.specs.SwitchRuns.{SwitchRuns, Switched}
 
@@ -28,20 +28,20 @@ two_written first second r (x ∷ y ∷ []) are =
 two_written first second r (x ∷ y ∷ z ∷ zs) are = absurd are.5.5
 
 -- what was written
-are_two : (t : Switched) → SwitchesOnce t → writings (events_of frames_sent switch_steps t) ≡ two_writings
-are_two t once =
+writes_two : (t : Switched) → SwitchesOnce t → writings (events_of frames_sent switch_steps t) ≡ two_writings
+writes_two t once =
     ap (λ (rs : List Forwarded). writings (events frames_sent (record { sent = 0; entries = t.hops.wire.sends }) (record { sent = 0; entries = t.sends }) switch_steps rs)) once.answered
     ∙ (ap (λ (es : List SentSample). writings (events frames_sent (record { sent = 0; entries = t.hops.wire.sends }) (record { sent = 0; entries = es }) switch_steps switch_answers)) once.second
     ∙ ap (λ (es : List SentSample). writings (events frames_sent (record { sent = 0; entries = es }) (record { sent = 0; entries = two_sent }) switch_steps switch_answers)) once.first)
 
-neither_is : (no_media : Vec ℕ) → BeginsWithNeither (switching_before no_media)
-neither_is no_media = (refl, refl)
+are_two : (no_media : Vec ℕ) → AreTwoSources (switching_before no_media)
+are_two no_media = record { differ = λ same. omega (arith, same); not_first = refl; not_second = refl }
 
 are_numbered : (no_media : Vec ℕ) (t : Switched) → SwitchRuns frames_sent switch_steps (switching_before no_media) t → SwitchesOnce t → AreNumbered 100 101 t.hops.written
 are_numbered no_media t run once =
     two_written t.hops.wire.datagrams t.datagrams (reached_by (forwarder_for codecs.Opus)) t.hops.written
-    (subst (λ (ws : List Writing). AreWritten t.hops.wire.datagrams t.datagrams (reached_by (forwarder_for codecs.Opus)) ws t.hops.written) (are_two t once)
-    (forward_switching frames_sent switch_steps opus_sender second_sender (forwarder_for codecs.Opus) (viewer_receiver OpusDepacketizing no_media) t run (neither_is no_media)))
+    (subst (λ (ws : List Writing). AreWritten t.hops.wire.datagrams t.datagrams (reached_by (forwarder_for codecs.Opus)) ws t.hops.written) (writes_two t once)
+    (forward_switching frames_sent switch_steps opus_sender second_sender (forwarder_for codecs.Opus) (viewer_receiver OpusDepacketizing no_media) t run (are_two no_media)))
 
 pub can_be_met : SwitchingCanBeMet
-can_be_met = record { neither = neither_is; writes = are_two; numbered = are_numbered }
+can_be_met = record { are_two = are_two; writes = writes_two; numbered = are_numbered }

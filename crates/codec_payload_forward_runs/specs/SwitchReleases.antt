@@ -1,5 +1,5 @@
 -- What a forwarder writes that goes over from one source to another, with any loss, repetition and order of datagrams on both hops.
-use Rattle.std.specs.Prelude.{◌≡◌, ℕ, ◌+◌, ◌%◌, ◌<◌, ◌≤◌, ◌^◌, nat_lt, if◌then◌else◌, max, Bool, true, false, List, [], ◌∷◌, ◌++◌, Some, Ok, drop, slice_get}
+use Rattle.std.specs.Prelude.{◌≡◌, ℕ, ◌+◌, ◌%◌, ◌<◌, ◌≤◌, ◌^◌, nat_lt, if◌then◌else◌, max, Bool, true, false, List, [], ◌∷◌, ◌++◌, Option, Some, None, Ok, drop, slice_get}
 use Rattle.std.specs.Option.{is_some}
 use Rattle.codec_payload_base.specs.declared.wire.Ticks.{Ticks}
 use Rattle.codec_payload_payloader.specs.Sending.{Sample}
@@ -91,9 +91,10 @@ writings (ends ∷ later) = writings later
 
 -- Numbers and times
 
--- How far the viewer's stream is, in numbers that do not wrap: the forwarder with the offsets since the last switch; the first number
--- since then, and the highest number so far; the latest time; and whether anything was written
+-- How far the viewer's stream is, in numbers that do not wrap: the source since the last switch, and the forwarder with the offsets since
+-- then; the first number since then, and the highest number so far; the latest time; and whether anything was written
 pub record Reached : Type 0 where
+  pub source : Option Source
   pub forwarder : Forward
   pub lowest : ℕ
   pub top : ℕ
@@ -102,11 +103,12 @@ pub record Reached : Type 0 where
 
 -- before a run of a forwarder that forwards neither source
 abbrev pub reached_by : Forward → Reached
-reached_by f = record { forwarder = f; lowest = next_number f.numbers + 65536; top = next_number f.numbers + 65535; latest = f.times.highest; wrote = is_some f.written_at }
+reached_by f = record { source = None; forwarder = f; lowest = next_number f.numbers + 65536; top = next_number f.numbers + 65535; latest = f.times.highest; wrote = is_some f.written_at }
 
 -- The forwarder goes over to a source with this packet: the packet has the number after the highest one so far, and a time that is later by
 -- some ticks, or equal if nothing was written before
-pub record Switches (p : Packet) (r t : Reached) : Type 0 where
+pub record Switches (source : Source) (p : Packet) (r t : Reached) : Type 0 where
+  pub source_is : t.source ≡ Some source
   pub settings : t.forwarder.settings ≡ r.forwarder.settings
   pub lowest : t.lowest ≡ r.top + 1
   pub top : t.top ≡ r.top + 1
@@ -118,9 +120,10 @@ pub record Switches (p : Packet) (r t : Reached) : Type 0 where
   pub number : (viewer_packet t.forwarder p).header.sequence_number ≡ t.top % 65536
   pub time : (viewer_packet t.forwarder p).header.timestamp ≡ t.latest
 
--- A later packet keeps the offsets. Its number is not below the first one since the switch, at most 32,768 above the highest one so far,
+-- A later packet is of the same source, and keeps the offsets. Its number is not below the first one since the switch, at most 32,768 above the highest one so far,
 -- and less than 32,768 below
-pub record Continues (p : Packet) (r t : Reached) : Type 0 where
+pub record Continues (source : Source) (p : Packet) (r t : Reached) : Type 0 where
+  pub source_is : r.source ≡ Some source
   pub number : ℕ
   pub low : (viewer_packet r.forwarder p).header.sequence_number ≡ number % 65536
   pub after_switch : r.lowest ≤ number
@@ -128,9 +131,9 @@ pub record Continues (p : Packet) (r t : Reached) : Type 0 where
   pub above : r.top < number + 32768
   pub goes_on : t ≡ record r { top = max r.top number; latest = later r.latest (viewer_packet r.forwarder p).header.timestamp }
 
-abbrev pub Reaches : Bool → Packet → Reached → Reached → Type 0
-Reaches true p r t = Switches p r t
-Reaches false p r t = Continues p r t
+abbrev pub Reaches : (begins : Bool) → Source → Packet → Reached → Reached → Type 0
+Reaches true source p r t = Switches source p r t
+Reaches false source p r t = Continues source p r t
 
 -- the packet of a datagram of one of the sources
 abbrev pub datagrams_of : Source → (first second : List (List ℕ)) → List (List ℕ)
@@ -146,16 +149,18 @@ AreWritten first second r [] [] = Unit {0}
 AreWritten first second r [] (bytes ∷ more) = ⊥
 AreWritten first second r (w ∷ ws) [] = ⊥
 AreWritten first second r (w ∷ ws) (bytes ∷ more) =
-    (p : Packet) × (next : Reached) × IsPacketAt (datagrams_of w.source first second) w.datagram p × Reaches w.begins p r next
+    (p : Packet) × (next : Reached) × IsPacketAt (datagrams_of w.source first second) w.datagram p × Reaches w.begins w.source p r next
     × IsWritten (viewer_packet next.forwarder p) bytes × AreWritten first second next ws more
 
--- the forwarder has begun with neither source before the run
-abbrev pub BeginsWithNeither : Switched → Type 0
-BeginsWithNeither s = (is_source s.hops.forwarder.source s.hops.wire.sending.stream.ssrc ≡ false) × (is_source s.hops.forwarder.source s.second.stream.ssrc ≡ false)
+-- The sources have different SSRCs, and the forwarder has begun with neither before the run
+pub record AreTwoSources (s : Switched) : Type 0 where
+  pub differ : s.hops.wire.sending.stream.ssrc ≡ s.second.stream.ssrc → ⊥
+  pub not_first : is_source s.hops.forwarder.source s.hops.wire.sending.stream.ssrc ≡ false
+  pub not_second : is_source s.hops.forwarder.source s.second.stream.ssrc ≡ false
 
 abbrev pub ForwardsSwitching : List Sample → List SwitchStep → Switched → Switched → Type 0
 ForwardsSwitching samples all_steps s t =
-    BeginsWithNeither s → AreWritten t.hops.wire.datagrams t.datagrams (reached_by s.hops.forwarder) (writings (events_of samples all_steps t)) t.hops.written
+    AreTwoSources s → AreWritten t.hops.wire.datagrams t.datagrams (reached_by s.hops.forwarder) (writings (events_of samples all_steps t)) t.hops.written
 
 -- for every run with two sources
 abbrev pub ForwardSwitching : Type 0

@@ -10,7 +10,7 @@ use Rattle.codec_payload_sending_forward.specs.declared.forwarder.Forwarded.TheV
 use Rattle.codec_payload_datagram_runs.specs.WireRunExample.{at, frames_sent, one_sent, opus_sender}
 use Rattle.codec_payload_datagram_runs.specs.declared.run.SentSample.{SentSample}
 use Rattle.codec_payload_forward_runs.specs.ForwardRunExample.{forwarder_for, viewer_receiver}
-use Rattle.codec_payload_forward_runs.specs.SwitchReleases.{BeginsWithNeither, Writing, events_of, writings}
+use Rattle.codec_payload_forward_runs.specs.SwitchReleases.{AreTwoSources, Writing, events_of, writings}
 use Rattle.codec_payload_forward_runs.specs.SwitchRuns.{SwitchRuns, Switched, begins_switching}
 use Rattle.codec_payload_forward_runs.specs.declared.run.ForwardStep.TheVariants as plain
 use Rattle.codec_payload_forward_runs.specs.declared.switch_run.Source.TheVariants as sources
@@ -53,6 +53,6 @@ AreNumbered n m written = (p q : Packet) × (written ≡ packet_bytes p ∷ pack
 -- the premises of a run with two sources can be met; and a run that goes over to the second source writes what they sent, under
 -- consecutive numbers
 pub record SwitchingCanBeMet : Type 0 where
-  pub neither : (no_media : Vec ℕ) → BeginsWithNeither (switching_before no_media)
+  pub are_two : (no_media : Vec ℕ) → AreTwoSources (switching_before no_media)
   pub writes : (t : Switched) → SwitchesOnce t → writings (events_of frames_sent switch_steps t) ≡ two_writings
   pub numbered : (no_media : Vec ℕ) (t : Switched) → SwitchRuns frames_sent switch_steps (switching_before no_media) t → SwitchesOnce t → AreNumbered 100 101 t.hops.written

@@ -3,6 +3,8 @@
 ghost use Rattle.std.specs.Prelude.{◌≡◌, map, IfOk, IfErr, OnOk, OnErr};
 ghost use Rattle.codec_payload_base.specs.declared.error.PacketError.TheVariants.{OutOfMemory};
 ghost use Rattle.codec_payload_payloader.specs.Sending.{sample_of};
+ghost use Rattle.codec_payload_forward_runs.specs.declared.switch_run.Source.TheVariants as sources;
+ghost use Rattle.codec_payload_forward_runs.specs.declared.switch_run.SwitchStep.TheVariants as steps;
 ghost use Rattle.codec_payload_forward_runs.specs.SwitchReleases.{ForwardsSwitching};
 ghost use Rattle.codec_payload_forward_runs.specs.SwitchRuns.{DoesSwitchStep, SwitchRuns, SwitchStops, SwitchStopsAt, begins_switching, swapped, switched_of};
 
@@ -113,13 +115,26 @@ fn do_switch_step<P: Packetizer, D: Depacketizer>(
         SwitchStep::Of(Source::First, step) => {
             do_forward_step(alloc, &mut link.link, samples, step, &mut run.run)
         }
-        SwitchStep::Of(Source::Second, step) => {
-            swap_sources(link, run);
-            let done = do_forward_step(alloc, &mut link.link, samples, step, &mut run.run);
-            swap_sources(link, run);
-            done
-        }
+        SwitchStep::Of(Source::Second, step) => do_second_step(alloc, link, samples, step, run),
     }
+}
+
+/// Executes one step with the second source.
+fn do_second_step<P: Packetizer, D: Depacketizer>(
+    alloc: Global,
+    link: &mut SwitchLink<P, D>,
+    samples: &[ToPayload],
+    step: ForwardStep,
+    run: &mut SwitchedRun,
+) -> Result<(), PacketError>
+    ensures ok { OnOk result (DoesSwitchStep (map sample_of samples.now) (steps.Of sources.Second step) (switched_of link.old.link.sender link.old.second link.old.link.forwarder link.old.link.receiver run.old) (switched_of link.new.link.sender link.new.second link.new.link.forwarder link.new.link.receiver run.new)) }
+    ensures err { OnErr result (SwitchStopsAt (map sample_of samples.now) (steps.Of sources.Second step) (switched_of link.old.link.sender link.old.second link.old.link.forwarder link.old.link.receiver run.old) link.new.link.sender link.new.second link.new.link.forwarder link.new.link.receiver) }
+    ensures fault { IfErr result (λ fault. fault ≡ OutOfMemory) }
+{
+    swap_sources(link, run);
+    let done = do_forward_step(alloc, &mut link.link, samples, step, &mut run.run);
+    swap_sources(link, run);
+    done
 }
 
 /// Exchanges the sources, and what they sent.
