@@ -128,10 +128,10 @@ module _ (source : Source) (ssrc rate : ℕ) (codec : Codec) (samples : List Sam
 
   begins_sent : (x : Source) (i : ℕ) (s t : Hops) (f : (after : List SentSample) → Follows samples (seen.Send i) s.wire t.wire after)
       → EventsBegin x samples (plain.Send i) s t [] (λ after. (f after).later) (λ rest. rest)
-  begins_sent sources.First i s t f other later after rest =
+  begins_sent sources.First i s t f = λ other later after rest.
       ap (λ (n : ℕ). events samples (record { sent = n; entries = sends_by samples (seen.Send i) (f after).later }) other later rest) (f after).sent
       ∙ ap (λ (es : List SentSample). events samples (ahead t es) other later rest) (f after).left
-  begins_sent sources.Second i s t f other later after rest =
+  begins_sent sources.Second i s t f = λ other later after rest.
       ap (λ (n : ℕ). events samples other (record { sent = n; entries = sends_by samples (seen.Send i) (f after).later }) later rest) (f after).sent
       ∙ ap (λ (es : List SentSample). events samples other (ahead t es) later rest) (f after).left
 
@@ -159,9 +159,9 @@ module _ (source : Source) (ssrc rate : ℕ) (codec : Codec) (samples : List Sam
       → ((a b : Ahead) (later : List SwitchStep) (rest : List Forwarded) → a.sent ≡ length s.wire.datagrams → events samples a b (steps.Of sources.First step ∷ later) rest ≡ events samples a b later rest)
       → ((a b : Ahead) (later : List SwitchStep) (rest : List Forwarded) → b.sent ≡ length s.wire.datagrams → events samples a b (steps.Of sources.Second step ∷ later) rest ≡ events samples a b later rest)
       → EventsBegin x samples step s t [] (λ after. after) (λ rest. rest)
-  begins_same sources.First step s t same first second other later after rest =
+  begins_same sources.First step s t same first second = λ other later after rest.
       first (ahead s after) other later rest refl ∙ ap (λ (h : Hops). events samples (ahead h after) other later rest) (sym same)
-  begins_same sources.Second step s t same first second other later after rest =
+  begins_same sources.Second step s t same first second = λ other later after rest.
       second other (ahead s after) later rest refl ∙ ap (λ (h : Hops). events samples other (ahead h after) later rest) (sym same)
 
   skipped : (k now : ℕ) (s t : Hops) → IsSourceAt s → slice_get s.wire.datagrams k ≡ None → t ≡ s → Did source ssrc rate codec samples (plain.Forward k now) s t
@@ -182,9 +182,9 @@ module _ (source : Source) (ssrc rate : ℕ) (codec : Codec) (samples : List Sam
   -- a datagram that comes to the forwarder
   begins_answered : (x : Source) (k now : ℕ) (answer : Forwarded) (s t : Hops) → t.wire ≡ s.wire → ltb k (length s.wire.datagrams) ≡ true
       → EventsBegin x samples (plain.Forward k now) s t (forwards x k answer ∷ []) (λ after. after) (λ rest. answer ∷ rest)
-  begins_answered sources.First k now answer s t wire there other later after rest =
+  begins_answered sources.First k now answer s t wire there = λ other later after rest.
       rw there refl ∙ ap (λ (w : Wire). forwards sources.First k answer ∷ events samples (record { sent = length w.datagrams; entries = after }) other later rest) (sym wire)
-  begins_answered sources.Second k now answer s t wire there other later after rest =
+  begins_answered sources.Second k now answer s t wire there = λ other later after rest.
       rw there refl ∙ ap (λ (w : Wire). forwards sources.Second k answer ∷ events samples other (record { sent = length w.datagrams; entries = after }) later rest) (sym wire)
 
   answered : (k now : ℕ) (s t : Hops) (d : List ℕ) (p : Packet) (answer : Forwarded) (bytes : List ℕ) (forwarder : Forward) → IsSourceAt s → slice_get s.wire.datagrams k ≡ Some d → rtp_at d ≡ Ok p
@@ -233,9 +233,9 @@ module _ (source : Source) (ssrc rate : ℕ) (codec : Codec) (samples : List Sam
   begins_quiet : (x : Source) (step : ForwardStep) (event : Event) (s t : Hops) → t.wire.datagrams ≡ s.wire.datagrams
       → ((y : Source) (a b : Ahead) (later : List SwitchStep) (rest : List Forwarded) → events samples a b (steps.Of y step ∷ later) rest ≡ event ∷ events samples a b later rest)
       → EventsBegin x samples step s t (event ∷ []) (λ after. after) (λ rest. rest)
-  begins_quiet sources.First step event s t same one other later after rest =
+  begins_quiet sources.First step event s t same one = λ other later after rest.
       one sources.First (ahead s after) other later rest ∙ ap (λ (ds : List (List ℕ)). event ∷ events samples (record { sent = length ds; entries = after }) other later rest) (sym same)
-  begins_quiet sources.Second step event s t same one other later after rest =
+  begins_quiet sources.Second step event s t same one = λ other later after rest.
       one sources.Second other (ahead s after) later rest ∙ ap (λ (ds : List (List ℕ)). event ∷ events samples other (record { sent = length ds; entries = after }) later rest) (sym same)
 
   quiet : (step : ForwardStep) (event : Event) (s t : Hops) → IsSourceAt s → t.wire.sending ≡ s.wire.sending → t.wire.datagrams ≡ s.wire.datagrams → t.wire.sends ≡ s.wire.sends → t.answers ≡ s.answers

@@ -16,7 +16,7 @@ use Rattle.codec_payload_forward_runs.proofs.SwitchEvents.{AreSources, Became, C
 use Rattle.codec_payload_forward_runs.proofs.SwitchNumbers.{IsAt, IsEither, IsOn, Writes, forwards_one, ssrc_of}
 use Rattle.codec_payload_forward_runs.proofs.ViewerLemmas.{IsOf}
 use Rattle.codec_payload_forward_runs.specs.ForwardRuns.{written_by}
-use Rattle.codec_payload_forward_runs.specs.SwitchReleases.{AreWritten, AreTwoSources, Event, ForwardSwitching, Reached, datagrams_of, delivers, ends, events, events_of, forwards, pops, reached_by, wants, writings}
+use Rattle.codec_payload_forward_runs.specs.SwitchReleases.{AreWritten, AreTwoSources, Event, ForwardSwitching, Reached, datagrams_of, delivers, ends, events, events_of, forwards, pops, reached_by, wants, Writing, writings}
 use Rattle.codec_payload_forward_runs.specs.SwitchRuns.{SwitchRuns, Switched, begins_switching}
 use Rattle.codec_payload_forward_runs.specs.declared.switch_run.Source.{Source}
 use Rattle.codec_payload_forward_runs.specs.declared.switch_run.Source.TheVariants as sources
@@ -41,8 +41,12 @@ module _ (a b : ℕ) (differ : a ≡ b → ⊥) (codec : Codec) (first second : 
     whole : w.written ≡ v.written ++ written
     are : AreWritten first second r (writings es) written
 
-  walks_on : (es : List Event) (v mid w : Viewer) (r : Reached) → mid.written ≡ v.written → Walks es mid w r → Walks es v w r
-  walks_on es v mid w r same rest = record { written = rest.written; whole = rest.whole ∙ ap (λ (bs : List (List ℕ)). bs ++ rest.written) same; are = rest.are }
+  walks_on : (es later : List Event) (v mid w : Viewer) (r : Reached) → writings es ≡ writings later → mid.written ≡ v.written → Walks later mid w r → Walks es v w r
+  walks_on es later v mid w r none same rest = record {
+    written = rest.written;
+    whole = rest.whole ∙ ap (λ (bs : List (List ℕ)). bs ++ rest.written) same;
+    are = subst (λ (ws : List Writing). AreWritten first second r ws rest.written) (sym none) rest.are;
+  }
 
   same_at : (v mid : Viewer) (r : Reached) → mid.forwarder ≡ v.forwarder → IsAt a b differ codec v.forwarder r → IsAt a b differ codec mid.forwarder r
   same_at v mid r same at = subst (λ (f : Forward). IsAt a b differ codec f r) (sym same) at
@@ -86,7 +90,7 @@ module _ (a b : ℕ) (differ : a ≡ b → ⊥) (codec : Codec) (first second : 
   walk : (es : List Event) (v w : Viewer) (r : Reached) → IsAt a b differ codec v.forwarder r → Happens first second es v w → Walks es v w r
   walk [] v w r at happens = record { written = []; whole = ap (λ (x : Viewer). x.written) happens ∙ sym (append-nil v.written); are = tt }
   walk (wants ssrc ∷ later) v w r at happens =
-      walks_on later v happens.0 w r (ap (λ (x : Viewer). x.written) happens.1)
+      walks_on (wants ssrc ∷ later) later v happens.0 w r refl (ap (λ (x : Viewer). x.written) happens.1)
       (walk later happens.0 w r (wanted_at ssrc v.forwarder happens.0.forwarder r (ap (λ (x : Viewer). x.forwarder) happens.1) at) happens.2)
   walk (forwards source k answer ∷ later) v w r at happens =
       let c = happens.1 in
@@ -96,12 +100,12 @@ module _ (a b : ℕ) (differ : a ≡ b → ⊥) (codec : Codec) (first second : 
       (walk later happens.0 w one.next (subst (λ (f : Forward). IsAt a b differ codec f one.next) (sym (ap (λ (x : Viewer). x.forwarder) c.is)) one.at) happens.2)
   walk (delivers j now ∷ later) v w r at happens =
       let same = delivered_same (slice_get v.written j) now v happens.0 happens.1 in
-      walks_on later v happens.0 w r same.1 (walk later happens.0 w r (same_at v happens.0 r same.0 at) happens.2)
+      walks_on (delivers j now ∷ later) later v happens.0 w r refl same.1 (walk later happens.0 w r (same_at v happens.0 r same.0 at) happens.2)
   walk (pops now ∷ later) v w r at happens =
-      walks_on later v happens.0 w r (ap (λ (x : Viewer). x.written) happens.1.4)
+      walks_on (pops now ∷ later) later v happens.0 w r refl (ap (λ (x : Viewer). x.written) happens.1.4)
       (walk later happens.0 w r (same_at v happens.0 r (ap (λ (x : Viewer). x.forwarder) happens.1.4) at) happens.2)
   walk (ends ∷ later) v w r at happens =
-      walks_on later v happens.0 w r (ap (λ (x : Viewer). x.written) happens.1.2)
+      walks_on (ends ∷ later) later v happens.0 w r refl (ap (λ (x : Viewer). x.written) happens.1.2)
       (walk later happens.0 w r (same_at v happens.0 r (ap (λ (x : Viewer). x.forwarder) happens.1.2) at) happens.2)
 
 not_on : (source : Option ℕ) (ssrc : ℕ) → is_source source ssrc ≡ false → is_source source ssrc ≡ true → ⊥

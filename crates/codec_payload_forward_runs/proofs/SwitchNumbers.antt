@@ -173,6 +173,7 @@ module _ (a b : ℕ) (differ : a ≡ b → ⊥) (codec : Codec) where
             next,
             there,
             record {
+              source_is = refl;
               settings = settings ∙ at.settings;
               lowest = refl;
               top = refl;
@@ -249,6 +250,7 @@ module _ (a b : ℕ) (differ : a ≡ b → ⊥) (codec : Codec) where
             next,
             there,
             record {
+              source_is = on_f.source_is ∙ ap (λ (x : Source). Some x) same_is;
               number = number;
               low = omega (arith, on_f.offset, on_f.low, low, near.0);
               after_switch = omega (arith, near.0);

@@ -3,12 +3,13 @@ use Rattle.std.specs.Global.{Vec}
 use Rattle.std.proofs.Common.{◌≡◌, ◌∙◌, refl, sym, ap, subst, ℕ, ◌+◌, ◌%◌, List, [], ◌∷◌, true, arith}
 use Rattle.codec_payload_base.specs.declared.wire.Codec.TheVariants as codecs
 use Rattle.codec_payload_codec.specs.Depacketizers.{OpusDepacketizing}
-use Rattle.codec_payload_rtp.specs.RtpPackets.{packet_bytes}
+use Rattle.codec_payload_rtp.specs.RtpPackets.{Packet, packet_bytes}
 use Rattle.codec_payload_sending_forward.specs.declared.forwarder.Forwarded.{Forwarded}
 use Rattle.codec_payload_datagram_runs.specs.WireRunExample.{frames_sent, one_sent, opus_sender}
 use Rattle.codec_payload_datagram_runs.specs.declared.run.SentSample.{SentSample}
 use Rattle.codec_payload_forward_runs.proofs.SwitchLemmas.{forward_switching}
 use Rattle.codec_payload_forward_runs.specs.ForwardRunExample.{forwarder_for, viewer_receiver}
+use Rattle.codec_payload_forward_runs.specs.ForwardReleases.{viewer_packet}
 use Rattle.codec_payload_forward_runs.specs.SwitchReleases.{AreWritten, AreTwoSources, Reached, Writing, events, events_of, reached_by, writings}
 use Rattle.codec_payload_forward_runs.specs.SwitchRunExample.{AreNumbered, SwitchesOnce, SwitchingCanBeMet, second_sender, switch_answers, switch_steps, switching_before, two_sent, two_writings}
 use Rattle.codec_payload_forward_runs.specs.SwitchRuns.{SwitchRuns, Switched}
@@ -18,10 +19,12 @@ two_written first second r [] are = absurd are
 two_written first second r (x ∷ []) are = absurd are.5
 two_written first second r (x ∷ y ∷ []) are =
     let one = are.3 in
-    let two = are.5.3 in (
-      _,
-      _,
-      ap (λ (b : List ℕ). b ∷ y ∷ []) are.4.0 ∙ ap (λ (b : List ℕ). packet_bytes _ ∷ b ∷ []) are.5.4.0,
+    let two = are.5.3 in
+    let p : Packet = viewer_packet are.1.forwarder are.0 in
+    let q : Packet = viewer_packet are.5.1.forwarder are.5.0 in (
+      p,
+      q,
+      ap (λ (b : List ℕ). b ∷ y ∷ []) are.4.0 ∙ ap (λ (b : List ℕ). packet_bytes p ∷ b ∷ []) are.5.4.0,
       one.number ∙ ap (λ (n : ℕ). n % 65536) one.top,
       two.number ∙ (ap (λ (n : ℕ). n % 65536) two.top ∙ omega (arith, one.top)),
     )
