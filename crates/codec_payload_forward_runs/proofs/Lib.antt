@@ -28,6 +28,7 @@ pub mod SwitchLemmas
 pub mod SwitchNumbers
 pub mod SwitchRunExamples
 pub mod SwitchSteps
+pub mod SwitchStreams
 pub mod ViewerLemmas
 pub mod ViewerReleases
 pub mod ViewerRuns

@@ -1,5 +1,5 @@
 -- A run with two sources, as what happened to the forwarder and the viewer.
-use Rattle.std.proofs.Common.{◌≡◌, ◌≢◌, ◌∙◌, refl, sym, ap, subst, ℕ, List, [], ◌∷◌, ◌++◌, Bool, true, false, ltb, Option, Some, None, MatchOption, Err, Ok, length, append_assoc, append-nil}
+use Rattle.std.proofs.Common.{◌≡◌, ◌≢◌, ◌∙◌, refl, sym, ap, subst, ℕ, List, [], ◌∷◌, ◌++◌, Bool, true, false, ltb, Option, Some, None, MatchOption, Err, Ok, length, length-append, append_assoc, append-nil, ◌+◌, ◌%◌, arith}
 use Rattle.std.specs.Prelude.{slice_get, drop}
 use Rattle.std.proofs.lemmas.Bool.{le-ltb, lt-ltb}
 use Rattle.std.proofs.lemmas.Option.{slice_get_within}
@@ -11,9 +11,10 @@ use Rattle.codec_payload_payloader.specs.Sending.{Sample}
 use Rattle.codec_payload_receiver.specs.Sessions.{Ends, Session}
 use Rattle.codec_payload_rtp.specs.RtpPackets.{Packet}
 use Rattle.codec_payload_rtp.specs.RtpReading.{rtp_at}
+use Rattle.codec_payload_sending.specs.Senders.{Sending}
 use Rattle.codec_payload_sending_forward.specs.Forwarding.{Forward, Forwards}
 use Rattle.codec_payload_sending_forward.specs.declared.forwarder.Forwarded.{Forwarded}
-use Rattle.codec_payload_datagram_runs.proofs.RepeatLemmas.{Follows, Grows, follows, grows}
+use Rattle.codec_payload_datagram_runs.proofs.RepeatLemmas.{Follows, From, Grows, follows, from_append, from_same, grows}
 use Rattle.codec_payload_datagram_runs.proofs.StepLemmas.{get_append, past_end}
 use Rattle.codec_payload_datagram_runs.specs.HistoryReleases.{sends_by}
 use Rattle.codec_payload_datagram_runs.specs.WireRuns.{Delivers, DoesStep, PopsUnit, Receipt, SendsIt, Wire}
@@ -75,6 +76,19 @@ happens_append : (first second : List (List ℕ)) (es fs : List Event) (v mid w 
 happens_append first second [] fs v mid w here more = subst (λ (x : Viewer). Happens first second fs x w) here more
 happens_append first second (e ∷ es) fs v mid w here more = (here.0, here.1, happens_append first second es fs here.0 mid w here.2 more)
 
+-- Numbers of datagrams
+
+-- the datagrams of a sender have consecutive numbers from n on, and the next one follows
+pub record IsFrom (n : ℕ) (s : Sending) (datagrams : List (List ℕ)) : Type 0 where
+  pub numbers : From n datagrams
+  pub next : s.stream.number % 65536 ≡ (n + length datagrams) % 65536
+
+from_grown : (n : ℕ) (s t : Wire) → Grows s t → IsFrom n s.sending s.datagrams → IsFrom n t.sending t.datagrams
+from_grown n s t g is = record {
+  numbers = subst (From n) (sym g.whole) (from_append n s.datagrams g.new is.numbers (from_same s.sending.stream.number (n + length s.datagrams) g.new is.next g.numbers));
+  next = g.next ∙ omega (arith, is.next, ap length g.whole, length-append s.datagrams g.new);
+}
+
 -- One step with a source
 
 more_none : (datagrams : List (List ℕ)) → IsMore datagrams datagrams
@@ -105,6 +119,7 @@ record Did (source : Source) (ssrc rate : ℕ) (codec : Codec) (samples : List S
   results_are : (rest : List Forwarded) → t.answers ++ rest ≡ s.answers ++ results rest
   more : IsMore s.wire.datagrams t.wire.datagrams
   source_is : IsSource ssrc rate codec false false t.wire.sending t.wire.datagrams
+  from : (n : ℕ) → IsFrom n s.wire.sending s.wire.datagrams → IsFrom n t.wire.sending t.wire.datagrams
   made : List Event
   begin : EventsBegin source samples step s t made sends results
   happens : (first second : List (List ℕ)) → IsMore t.wire.datagrams (datagrams_of source first second) → Happens first second made (viewer_of s) (viewer_of t)
@@ -149,6 +164,7 @@ module _ (source : Source) (ssrc rate : ℕ) (codec : Codec) (samples : List Sam
         results_are = λ rest. ap (λ (x : Hops). x.answers ++ rest) does.2;
         more = (g.new, g.whole);
         source_is = source_after ssrc rate codec false false samples i s.wire t.wire is stepped;
+        from = λ n before. from_grown n s.wire t.wire g before;
         made = [];
         begin = begins_sent source i s t f;
         happens = λ first second more. ap viewer_of does.2 ∙ same_viewer s does.0 else_same.0 else_same.1;
@@ -174,6 +190,7 @@ module _ (source : Source) (ssrc rate : ℕ) (codec : Codec) (samples : List Sam
         results_are = λ rest. ap (λ (x : Hops). x.answers ++ rest) same;
         more = subst (λ (x : Hops). IsMore s.wire.datagrams x.wire.datagrams) (sym same) (more_none s.wire.datagrams);
         source_is = subst IsSourceAt (sym same) is;
+        from = λ n before. subst (λ (x : Hops). IsFrom n x.wire.sending x.wire.datagrams) (sym same) before;
         made = [];
         begin = begins_same source (plain.Forward k now) s t same (λ a b later rest at. rw (at, past) refl) (λ a b later rest at. rw (at, past) refl);
         happens = λ first second more. ap viewer_of same;
@@ -199,6 +216,7 @@ module _ (source : Source) (ssrc rate : ℕ) (codec : Codec) (samples : List Sam
         results_are = λ rest. ap (λ (x : Hops). x.answers ++ rest) same ∙ append_assoc s.answers (answer ∷ []) rest;
         more = subst (λ (w : Wire). IsMore s.wire.datagrams w.datagrams) (sym wire) (more_none s.wire.datagrams);
         source_is = subst (λ (w : Wire). IsSource ssrc rate codec false false w.sending w.datagrams) (sym wire) is;
+        from = λ n before. subst (λ (w : Wire). IsFrom n w.sending w.datagrams) (sym wire) before;
         made = forwards source k answer ∷ [];
         begin = begins_answered source k now answer s t wire (lt-ltb k (length s.wire.datagrams) (slice_get_within s.wire.datagrams k d there));
         happens = λ first second more. (
@@ -250,6 +268,7 @@ module _ (source : Source) (ssrc rate : ℕ) (codec : Codec) (samples : List Sam
     more = subst (IsMore s.wire.datagrams) (sym datagrams) (more_none s.wire.datagrams);
     source_is = subst (λ (ds : List (List ℕ)). IsSource ssrc rate codec false false t.wire.sending ds) (sym datagrams)
         (subst (λ (x : _). IsSource ssrc rate codec false false x s.wire.datagrams) (sym sending) is);
+    from = λ n before. subst (λ (ds : List (List ℕ)). IsFrom n t.wire.sending ds) (sym datagrams) (subst (λ (x : Sending). IsFrom n x s.wire.datagrams) (sym sending) before);
     made = event ∷ [];
     begin = begins_quiet source step event s t datagrams one;
     happens = λ first second more. (viewer_of t, does first second, refl);
@@ -296,10 +315,12 @@ module _ (source : Source) (ssrc rate : ℕ) (codec : Codec) (samples : List Sam
 
 -- Whole runs
 
-module _ (first_ssrc second_ssrc first_rate second_rate : ℕ) (codec : Codec) (samples : List Sample) where
+module _ (first_ssrc second_ssrc first_rate second_rate first_number second_number : ℕ) (codec : Codec) (samples : List Sample) where
   pub record AreSources (s : Switched) : Type 0 where
     pub first : IsSource first_ssrc first_rate codec false false s.hops.wire.sending s.hops.wire.datagrams
     pub second : IsSource second_ssrc second_rate codec false false s.second s.datagrams
+    pub first_from : IsFrom first_number s.hops.wire.sending s.hops.wire.datagrams
+    pub second_from : IsFrom second_number s.second s.datagrams
 
   -- a run is what happened
   pub record Became (all_steps : List SwitchStep) (s t : Switched) : Type 0 where
@@ -391,12 +412,12 @@ module _ (first_ssrc second_ssrc first_rate second_rate : ℕ) (codec : Codec) (
     happens = ap (λ (x : Switched). viewer_of x.hops) run;
   }
   became (steps.Want ssrc ∷ later) s t are run =
-      same_became (steps.Want ssrc) later ssrc s run.0 t run.1 (became later run.0 t (subst AreSources (sym run.1) (record { first = are.first; second = are.second })) run.2)
+      same_became (steps.Want ssrc) later ssrc s run.0 t run.1 (became later run.0 t (subst AreSources (sym run.1) (record { first = are.first; second = are.second; first_from = are.first_from; second_from = are.second_from })) run.2)
   became (steps.Of sources.First step ∷ later) s t are run =
       let hops : Hops = run.1.0 in
       let one = did sources.First first_ssrc first_rate codec samples step s.hops hops are.first run.1.1 in
-      first_became step later s run.0 t hops one run.1.2 (became later run.0 t (subst AreSources (sym run.1.2) (record { first = one.source_is; second = are.second })) run.2)
+      first_became step later s run.0 t hops one run.1.2 (became later run.0 t (subst AreSources (sym run.1.2) (record { first = one.source_is; second = are.second; first_from = one.from first_number are.first_from; second_from = are.second_from })) run.2)
   became (steps.Of sources.Second step ∷ later) s t are run =
       let hops : Hops = run.1.0 in
       let one = did sources.Second second_ssrc second_rate codec samples step (swapped s).hops hops are.second run.1.1 in
-      second_became step later s run.0 t hops one run.1.2 (became later run.0 t (subst AreSources (sym run.1.2) (record { first = are.first; second = one.source_is })) run.2)
+      second_became step later s run.0 t hops one run.1.2 (became later run.0 t (subst AreSources (sym run.1.2) (record { first = are.first; second = one.source_is; first_from = are.first_from; second_from = one.from second_number are.second_from })) run.2)

@@ -133,14 +133,16 @@ module _ (samples : List Sample) (all_steps : List SwitchStep) (first second : S
   abbrev b : ℕ
   b = second.stream.ssrc
 
-  pub begins : AreSources a b first.stream.clock_rate second.stream.clock_rate codec samples s
+  pub begins : AreSources a b first.stream.clock_rate second.stream.clock_rate first.stream.number second.stream.number codec samples s
   begins = record {
     first = record { source = refl; clock = refl; keeps = λ e. absurd (cc); of_codec = λ e. absurd (cc); all = tt };
     second = record { source = refl; clock = refl; keeps = λ e. absurd (cc); of_codec = λ e. absurd (cc); all = tt };
+    first_from = record { numbers = tt; next = omega arith };
+    second_from = record { numbers = tt; next = omega arith };
   }
 
-  pub all_became : Became a b first.stream.clock_rate second.stream.clock_rate codec samples all_steps s t
-  all_became = became a b first.stream.clock_rate second.stream.clock_rate codec samples all_steps s t begins run
+  pub all_became : Became a b first.stream.clock_rate second.stream.clock_rate first.stream.number second.stream.number codec samples all_steps s t
+  all_became = became a b first.stream.clock_rate second.stream.clock_rate first.stream.number second.stream.number codec samples all_steps s t begins run
 
   -- what happened in the run
   pub happened : Happens t.hops.wire.datagrams t.datagrams (events_of samples all_steps t) (viewer_of s.hops) (viewer_of t.hops)
@@ -153,7 +155,7 @@ module _ (samples : List Sample) (all_steps : List SwitchStep) (first second : S
       (events samples (record { sent = 0; entries = es }) (record { sent = 0; entries = all_became.second_later }) all_steps all_became.results) (viewer_of s.hops) (viewer_of t.hops)) (sym all_became.first_are)
       all_became.happens))
 
-  walked : AreTwoSources s → AreWritten t.hops.wire.datagrams t.datagrams (reached_by forwarder) (writings (events_of samples all_steps t)) t.hops.written
+  pub walked : AreTwoSources s → AreWritten t.hops.wire.datagrams t.datagrams (reached_by forwarder) (writings (events_of samples all_steps t)) t.hops.written
   walked two =
       let w = walk a b two.differ codec t.hops.wire.datagrams t.datagrams all_became.sources_are.first.all all_became.sources_are.second.all (events_of samples all_steps t) (viewer_of s.hops) (viewer_of t.hops)
       (reached_by forwarder) (begun_at a b two.differ forwarder two.not_first two.not_second) happened in

@@ -1,5 +1,5 @@
 -- What a forwarder writes that goes over from one source to another, with any loss, repetition and order of datagrams on both hops.
-use Rattle.std.specs.Prelude.{◌≡◌, ℕ, ◌+◌, ◌%◌, ◌<◌, ◌≤◌, ◌^◌, nat_lt, if◌then◌else◌, max, Bool, true, false, List, [], ◌∷◌, ◌++◌, Option, Some, None, Ok, drop, slice_get}
+use Rattle.std.specs.Prelude.{◌≡◌, ℕ, ◌+◌, ◌-◌, ◌%◌, ◌<◌, ◌≤◌, ◌^◌, nat_lt, if◌then◌else◌, max, Bool, true, false, List, [], ◌∷◌, ◌++◌, Option, Some, None, Ok, drop, slice_get}
 use Rattle.std.specs.Option.{is_some}
 use Rattle.codec_payload_base.specs.declared.wire.Ticks.{Ticks}
 use Rattle.codec_payload_payloader.specs.Sending.{Sample}
@@ -13,8 +13,10 @@ use Rattle.codec_payload_sending_forward.specs.Times.{later}
 use Rattle.codec_payload_sending_forward.specs.declared.forwarder.Forwarded.{Forwarded}
 use Rattle.codec_payload_sending_forward.specs.declared.forwarder.Forwarded.TheVariants as answers
 use Rattle.codec_payload_datagram_runs.specs.Releases.{sends_after, sent_after}
+use Rattle.codec_payload_datagram_runs.specs.RestartReleases.{next_above}
 use Rattle.codec_payload_datagram_runs.specs.declared.run.SentSample.{SentSample}
 use Rattle.codec_payload_forward_runs.specs.ForwardReleases.{viewer_packet}
+use Rattle.codec_payload_forward_runs.specs.LeaveReleases.{ComeNear}
 use Rattle.codec_payload_forward_runs.specs.SwitchRuns.{SwitchRuns, Switched, begins_switching}
 use Rattle.codec_payload_forward_runs.specs.declared.run.ForwardStep.TheVariants as plain
 use Rattle.codec_payload_forward_runs.specs.declared.switch_run.Source.{Source}
@@ -167,3 +169,86 @@ abbrev pub ForwardSwitching : Type 0
 ForwardSwitching =
     (samples : List Sample) (all_steps : List SwitchStep) (first second : Sending) (forwarder : Forward) (receiver : Session) (t : Switched)
     → SwitchRuns samples all_steps (begins_switching first second forwarder receiver) t → ForwardsSwitching samples all_steps (begins_switching first second forwarder receiver) t
+
+-- One switch: the viewer's stream
+
+-- the sources with which the forwarder begins, in order
+abbrev pub begun_with : List Writing → List Source
+begun_with [] = []
+begun_with (w ∷ ws) = if w.begins then w.source ∷ begun_with ws else begun_with ws
+
+-- the datagrams of a source that were written, in order
+abbrev pub of_source : (wanted source : Source) → ℕ → List ℕ
+of_source sources.First sources.First k = k ∷ []
+of_source sources.First sources.Second k = []
+of_source sources.Second sources.First k = []
+of_source sources.Second sources.Second k = k ∷ []
+
+abbrev pub written_of : Source → List Writing → List ℕ
+written_of source [] = []
+written_of source (w ∷ ws) = of_source source w.source w.datagram ++ written_of source ws
+
+-- how many datagrams of the first source are in front of the switch: up to the highest one that was written
+abbrev pub cut_of : List Writing → ℕ
+cut_of ws = next_above 0 0 (written_of sources.First ws)
+
+-- the datagram of the second source with which the forwarder goes over
+abbrev pub first_in : List ℕ → ℕ
+first_in [] = 0
+first_in (k ∷ ks) = k
+
+abbrev pub start_of : List Writing → ℕ
+start_of ws = first_in (written_of sources.Second ws)
+
+-- the place of a datagram in the viewer's stream: the datagrams of the first source up to the switch, and then those of the second
+-- from `start` on
+abbrev pub place_in : Source → (cut start : ℕ) → ℕ → ℕ
+place_in sources.First cut start k = k
+place_in sources.Second cut start k = cut + (k - start)
+
+abbrev pub IsInStream : Source → (cut start : ℕ) → ℕ → Type 0
+IsInStream sources.First cut start k = k < cut
+IsInStream sources.Second cut start k = start ≤ k
+
+-- the offsets for a source: before the switch, or after it
+abbrev pub offsets_in : Source → (before after : Forward) → Forward
+offsets_in sources.First before after = before
+offsets_in sources.Second before after = after
+
+-- each written datagram is in the viewer's stream, and has the number of its place: the first place has the number `number`
+abbrev pub AreInPlace : (first second : List (List ℕ)) → (before after : Forward) → (number cut start : ℕ) → List Writing → List (List ℕ) → Type 0
+AreInPlace first second before after number cut start [] [] = Unit {0}
+AreInPlace first second before after number cut start [] (bytes ∷ more) = ⊥
+AreInPlace first second before after number cut start (w ∷ ws) [] = ⊥
+AreInPlace first second before after number cut start (w ∷ ws) (bytes ∷ more) =
+    (p : Packet) × IsPacketAt (datagrams_of w.source first second) w.datagram p × IsWritten (viewer_packet (offsets_in w.source before after) p) bytes × IsInStream w.source cut start w.datagram
+    × ((viewer_packet (offsets_in w.source before after) p).header.sequence_number ≡ (number + place_in w.source cut start w.datagram) % 65536)
+    × AreInPlace first second before after number cut start ws more
+
+-- The forwarder begins with the first source, and then with the second, and no more. Of each source the written datagrams are near the
+-- highest one before
+pub record SwitchesOnce (ws : List Writing) : Type 0 where
+  pub begun : begun_with ws ≡ sources.First ∷ sources.Second ∷ []
+  pub first_near : ComeNear (written_of sources.First ws)
+  pub second_near : ComeNear (written_of sources.Second ws)
+
+-- what is written is one stream
+pub record IsOneStream (first second : List (List ℕ)) (f : Forward) (ws : List Writing) (written : List (List ℕ)) : Type 0 where
+  pub before : Forward
+  pub after : Forward
+  pub before_settings : before.settings ≡ f.settings
+  pub after_settings : after.settings ≡ f.settings
+  pub number : ℕ
+  pub in_place : AreInPlace first second before after number (cut_of ws) (start_of ws) ws written
+
+-- this applies to a run with one switch
+abbrev pub WritesOneStream : List Sample → List SwitchStep → Switched → Switched → Type 0
+WritesOneStream samples all_steps s t =
+    AreTwoSources s → SwitchesOnce (writings (events_of samples all_steps t))
+    → IsOneStream t.hops.wire.datagrams t.datagrams s.hops.forwarder (writings (events_of samples all_steps t)) t.hops.written
+
+-- for every run with two sources
+abbrev pub WriteOneStream : Type 0
+WriteOneStream =
+    (samples : List Sample) (all_steps : List SwitchStep) (first second : Sending) (forwarder : Forward) (receiver : Session) (t : Switched)
+    → SwitchRuns samples all_steps (begins_switching first second forwarder receiver) t → WritesOneStream samples all_steps (begins_switching first second forwarder receiver) t

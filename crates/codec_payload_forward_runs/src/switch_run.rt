@@ -5,7 +5,7 @@ ghost use Rattle.codec_payload_base.specs.declared.error.PacketError.TheVariants
 ghost use Rattle.codec_payload_payloader.specs.Sending.{sample_of};
 ghost use Rattle.codec_payload_forward_runs.specs.declared.switch_run.Source.TheVariants as sources;
 ghost use Rattle.codec_payload_forward_runs.specs.declared.switch_run.SwitchStep.TheVariants as steps;
-ghost use Rattle.codec_payload_forward_runs.specs.SwitchReleases.{ForwardsSwitching};
+ghost use Rattle.codec_payload_forward_runs.specs.SwitchReleases.{ForwardsSwitching, WritesOneStream};
 ghost use Rattle.codec_payload_forward_runs.specs.SwitchRuns.{DoesSwitchStep, SwitchRuns, SwitchStops, SwitchStopsAt, begins_switching, swapped, switched_of};
 
 use crate::run::{ForwardLink, ForwardStep, ForwardedRun, do_forward_step, no_results};
@@ -79,6 +79,8 @@ pub fn run_forwarded_switching<P: Packetizer, D: Depacketizer>(
     ensures runs { IfOk result (λ run. SwitchRuns (map sample_of samples.now) steps.now (begins_switching link.old.link.sender link.old.second link.old.link.forwarder link.old.link.receiver) (switched_of link.new.link.sender link.new.second link.new.link.forwarder link.new.link.receiver run)) }
     // What the forwarder writes: numbers go on by one at a switch, and times do not go back.
     ensures forwards { IfOk result (λ run. ForwardsSwitching (map sample_of samples.now) steps.now (begins_switching link.old.link.sender link.old.second link.old.link.forwarder link.old.link.receiver) (switched_of link.new.link.sender link.new.second link.new.link.forwarder link.new.link.receiver run)) }
+    // With one switch it is one stream: the first source up to the switch, then the second from its keyframe on.
+    ensures stream { IfOk result (λ run. WritesOneStream (map sample_of samples.now) steps.now (begins_switching link.old.link.sender link.old.second link.old.link.forwarder link.old.link.receiver) (switched_of link.new.link.sender link.new.second link.new.link.forwarder link.new.link.receiver run)) }
     ensures stops { OnErr result (SwitchStops (map sample_of samples.now) steps.now (begins_switching link.old.link.sender link.old.second link.old.link.forwarder link.old.link.receiver) link.new.link.sender link.new.second link.new.link.forwarder link.new.link.receiver) }
     ensures fault { IfErr result (λ fault. fault ≡ OutOfMemory) }
 {
