@@ -1,6 +1,6 @@
 -- A run with two sources, as what happened to the forwarder and the viewer.
-use Rattle.std.proofs.Common.{◌≡◌, ◌≢◌, ◌∙◌, refl, sym, ap, subst, ℕ, List, [], ◌∷◌, ◌++◌, Bool, true, false, ltb, Option, Some, None, MatchOption, Err, Ok, length, length-append, append_assoc, append-nil, ◌+◌, ◌%◌, arith}
-use Rattle.std.specs.Prelude.{slice_get, drop}
+use Rattle.std.proofs.Common.{◌≡◌, ◌≢◌, ◌∙◌, refl, sym, ap, subst, ℕ, List, [], ◌∷◌, ◌++◌, true, false, ltb, Option, Some, None, MatchOption, Err, Ok, length, length-append, append_assoc, append-nil, ◌+◌, ◌%◌, arith}
+use Rattle.std.specs.Prelude.{slice_get}
 use Rattle.std.proofs.lemmas.Bool.{le-ltb, lt-ltb}
 use Rattle.std.proofs.lemmas.Option.{slice_get_within}
 use Rattle.codec_payload_base.specs.declared.error.PacketError.TheVariants as faults
@@ -24,7 +24,7 @@ use Rattle.codec_payload_forward_runs.proofs.SourceLemmas.{IsDatagramOf, IsSourc
 use Rattle.codec_payload_forward_runs.proofs.ViewerRuns.{IsMore}
 use Rattle.codec_payload_forward_runs.specs.ForwardRuns.{DoesForwardStep, DoesPlain, Hops, packet_in, packet_read, written_by}
 use Rattle.codec_payload_forward_runs.specs.SwitchReleases.{Ahead, Event, datagrams_of, delivers, ends, events, forwards, pops, wants}
-use Rattle.codec_payload_forward_runs.specs.SwitchRuns.{DoesSwitchStep, SwitchRuns, Switched, swapped}
+use Rattle.codec_payload_forward_runs.specs.SwitchRuns.{SwitchRuns, Switched, swapped}
 use Rattle.codec_payload_forward_runs.specs.declared.run.ForwardStep.{ForwardStep}
 use Rattle.codec_payload_forward_runs.specs.declared.run.ForwardStep.TheVariants as plain
 use Rattle.codec_payload_forward_runs.specs.declared.switch_run.Source.{Source}

@@ -1,15 +1,15 @@
 -- What a forwarder writes that goes over from one source to another: numbers and times.
-use Rattle.std.proofs.Common.{◌≡◌, ◌∙◌, refl, sym, ap, subst, ℕ, suc, ◌+◌, ◌-◌, ◌%◌, ◌<◌, ◌≤◌, ◌^◌, max, List, [], ◌∷◌, ◌++◌, append-nil, Bool, true, false, Option, Some, None, Ok, length, arith, ◌⊎◌, inl, inr}
-use Rattle.std.specs.Prelude.{nat_le, nat_lt, slice_get}
+use Rattle.std.proofs.Common.{◌≡◌, ◌∙◌, refl, sym, ap, subst, ℕ, suc, ◌+◌, ◌-◌, ◌%◌, ◌<◌, ◌≤◌, ◌^◌, max, List, [], ◌++◌, Bool, true, false, Option, Some, None, Ok, length, arith, ◌⊎◌, inl, inr}
+use Rattle.std.specs.Prelude.{nat_le, nat_lt}
 use Rattle.std.specs.Option.{is_some}
-use Rattle.std.proofs.lemmas.Bool.{eqb-true, le-ltb, leb-false, leb-true, lt-ltb, ltb-false, ltb-true}
+use Rattle.std.proofs.lemmas.Bool.{eqb-true, leb-false, leb-true, ltb-false, ltb-true}
 use Rattle.codec_payload_base.specs.Extended.{ahead, nearest}
 use Rattle.codec_payload_base.specs.declared.wire.Codec.{Codec}
 use Rattle.codec_payload_rtp.specs.RtpPackets.{Packet, packet_bytes}
 use Rattle.codec_payload_rtp.specs.RtpReading.{rtp_at}
 use Rattle.codec_payload_sending_forward.proofs.MapLemmas.{young_by}
 use Rattle.codec_payload_sending_forward.specs.Forwarding.{Forward, Forwards, after_begin, after_next, is_source, number_in, ticks_between, written_when}
-use Rattle.codec_payload_sending_forward.specs.Numbers.{Numbers, after_packet, is_in, is_too_old, next_number, placed, sent_as}
+use Rattle.codec_payload_sending_forward.specs.Numbers.{Numbers, after_packet, is_too_old, next_number, placed}
 use Rattle.codec_payload_sending_forward.specs.Times.{later, time_as}
 use Rattle.codec_payload_sending_forward.specs.declared.forwarder.Forwarded.{Forwarded}
 use Rattle.codec_payload_sending_forward.specs.declared.forwarder.Forwarded.TheVariants as answers
@@ -17,7 +17,7 @@ use Rattle.codec_payload_sending_forward.specs.declared.renumbering.Placed.TheVa
 use Rattle.codec_payload_forward_runs.proofs.ViewerLemmas.{DoesOne, HasNone, IsOf, does_one, left_stay, ids_stay, low_number, offset_stays, same_viewer, switched_none}
 use Rattle.codec_payload_forward_runs.specs.ForwardReleases.{viewer_packet}
 use Rattle.codec_payload_forward_runs.specs.ForwardRuns.{written_by}
-use Rattle.codec_payload_forward_runs.specs.SwitchReleases.{AreWritten, Continues, IsPacketAt, Reached, Switches, Writing, datagrams_of, writing_of}
+use Rattle.codec_payload_forward_runs.specs.SwitchReleases.{AreWritten, IsPacketAt, Reached, Writing, datagrams_of, writing_of}
 use Rattle.codec_payload_forward_runs.specs.declared.switch_run.Source.{Source}
 use Rattle.codec_payload_forward_runs.specs.declared.switch_run.Source.TheVariants as sources
 

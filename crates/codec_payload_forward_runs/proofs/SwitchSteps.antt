@@ -1,9 +1,8 @@
 -- A step with the second source: a step with the sources exchanged.
-use Rattle.std.proofs.Common.{◌≡◌, ◌∙◌, refl, sym, ap, subst, Result, Ok, Err, List}
+use Rattle.std.proofs.Common.{◌≡◌, ◌∙◌, sym, ap, subst, Result, Ok, Err, List}
 use Rattle.std.specs.Prelude.{OnErr, OnOk}
 use Rattle.codec_payload_base.specs.declared.error.PacketError.{PacketError}
 use Rattle.codec_payload_payloader.specs.Sending.{Sample}
-use Rattle.codec_payload_sending.specs.Senders.{Sending}
 use Rattle.codec_payload_forward_runs.specs.ForwardRuns.{DoesForwardStep, ForwardStopsAt, Hops}
 use Rattle.codec_payload_forward_runs.specs.SwitchRuns.{DoesSwitchStep, SwitchStopsAt, Switched, swapped}
 use Rattle.codec_payload_forward_runs.specs.declared.run.ForwardStep.{ForwardStep}

@@ -1,11 +1,8 @@
 -- What a forwarder writes in a run with one switch: one stream.
-use Rattle.std.proofs.Common.{◌≡◌, ◌∙◌, refl, sym, ap, subst, ℕ, zero, suc, ◌+◌, ◌-◌, ◌%◌, ◌<◌, ◌≤◌, max, List, [], ◌∷◌, ◌++◌, Bool, true, false, cond, Option, Some, None, Ok, Result, arith}
+use Rattle.std.proofs.Common.{◌≡◌, ◌∙◌, refl, sym, ap, subst, ℕ, zero, suc, ◌+◌, ◌%◌, ◌<◌, ◌≤◌, max, List, [], ◌∷◌, ◌++◌, Bool, true, false, cond, Some, None, arith}
 use Rattle.std.specs.Prelude.{slice_get}
 use Rattle.std.proofs.lemmas.Option.{same_Some}
-use Rattle.codec_payload_payloader.specs.Sending.{Sample}
-use Rattle.codec_payload_receiver.specs.Sessions.{Session}
 use Rattle.codec_payload_rtp.specs.RtpPackets.{Packet}
-use Rattle.codec_payload_sending.specs.Senders.{Sending}
 use Rattle.codec_payload_sending_forward.specs.Forwarding.{Forward, IsWritten}
 use Rattle.codec_payload_sending_history.specs.Packets.{number_in, number_of}
 use Rattle.codec_payload_datagram_runs.proofs.RepeatLemmas.{From}
@@ -15,10 +12,8 @@ use Rattle.codec_payload_forward_runs.proofs.SwitchLemmas.{all_became, walked}
 use Rattle.codec_payload_forward_runs.specs.ForwardReleases.{viewer_packet}
 use Rattle.codec_payload_forward_runs.specs.LeaveReleases.{ComeNear}
 use Rattle.codec_payload_forward_runs.specs.SwitchReleases.{AreInPlace, AreWritten, Continues, IsInStream, IsOneStream, IsPacketAt, Reached, Reaches, Switches, SwitchesOnce, WriteOneStream, Writing, begun_with, cut_of, datagrams_of, events_of, first_in, of_source, offsets_in, place_in, reached_by, start_of, writings, written_of}
-use Rattle.codec_payload_forward_runs.specs.SwitchRuns.{SwitchRuns, Switched, begins_switching}
 use Rattle.codec_payload_forward_runs.specs.declared.switch_run.Source.{Source}
 use Rattle.codec_payload_forward_runs.specs.declared.switch_run.Source.TheVariants as sources
-use Rattle.codec_payload_forward_runs.specs.declared.switch_run.SwitchStep.{SwitchStep}
 
 -- Numbers
 

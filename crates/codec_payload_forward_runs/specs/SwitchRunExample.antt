@@ -10,7 +10,7 @@ use Rattle.codec_payload_sending_forward.specs.declared.forwarder.Forwarded.TheV
 use Rattle.codec_payload_datagram_runs.specs.WireRunExample.{at, frames_sent, one_sent, opus_sender}
 use Rattle.codec_payload_datagram_runs.specs.declared.run.SentSample.{SentSample}
 use Rattle.codec_payload_forward_runs.specs.ForwardRunExample.{forwarder_for, viewer_receiver}
-use Rattle.codec_payload_forward_runs.specs.SwitchReleases.{AreTwoSources, Writing, events_of, writings}
+use Rattle.codec_payload_forward_runs.specs.SwitchReleases.{AreTwoSources, SwitchesOnce, Writing, events_of, writings}
 use Rattle.codec_payload_forward_runs.specs.SwitchRuns.{SwitchRuns, Switched, begins_switching}
 use Rattle.codec_payload_forward_runs.specs.declared.run.ForwardStep.TheVariants as plain
 use Rattle.codec_payload_forward_runs.specs.declared.switch_run.Source.TheVariants as sources
@@ -38,7 +38,7 @@ abbrev pub switching_before : Vec ℕ → Switched
 switching_before no_media = begins_switching opus_sender second_sender (forwarder_for codecs.Opus) (viewer_receiver OpusDepacketizing no_media)
 
 -- each sample is sent in one datagram, and the forwarder begins with each source
-pub record SwitchesOnce (t : Switched) : Type 0 where
+pub record GoesOver (t : Switched) : Type 0 where
   pub first : t.hops.wire.sends ≡ one_sent
   pub second : t.sends ≡ two_sent
   pub answered : t.hops.answers ≡ switch_answers
@@ -50,9 +50,10 @@ two_writings = record { source = sources.First; datagram = 0; begins = true } �
 abbrev pub AreNumbered : ℕ → ℕ → List (List ℕ) → Type 0
 AreNumbered n m written = (p q : Packet) × (written ≡ packet_bytes p ∷ packet_bytes q ∷ []) × (p.header.sequence_number ≡ n) × (q.header.sequence_number ≡ m)
 
--- the premises of a run with two sources can be met; and a run that goes over to the second source writes what they sent, under
--- consecutive numbers
+-- the premises of a run with two sources can be met, also those of one switch; and a run that goes over to the second source writes what
+-- they sent, under consecutive numbers
 pub record SwitchingCanBeMet : Type 0 where
   pub are_two : (no_media : Vec ℕ) → AreTwoSources (switching_before no_media)
-  pub writes : (t : Switched) → SwitchesOnce t → writings (events_of frames_sent switch_steps t) ≡ two_writings
-  pub numbered : (no_media : Vec ℕ) (t : Switched) → SwitchRuns frames_sent switch_steps (switching_before no_media) t → SwitchesOnce t → AreNumbered 100 101 t.hops.written
+  pub writes : (t : Switched) → GoesOver t → writings (events_of frames_sent switch_steps t) ≡ two_writings
+  pub once : SwitchesOnce two_writings
+  pub numbered : (no_media : Vec ℕ) (t : Switched) → SwitchRuns frames_sent switch_steps (switching_before no_media) t → GoesOver t → AreNumbered 100 101 t.hops.written

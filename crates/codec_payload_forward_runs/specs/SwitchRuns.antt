@@ -7,7 +7,6 @@ use Rattle.codec_payload_sending_forward.specs.Forwarding.{Forward}
 use Rattle.codec_payload_datagram_runs.specs.WireRuns.{bytes_in}
 use Rattle.codec_payload_datagram_runs.specs.declared.run.SentSample.{SentSample}
 use Rattle.codec_payload_forward_runs.specs.ForwardRuns.{DoesForwardStep, ForwardStopsAt, Hops, begins_forwarding, hops_of}
-use Rattle.codec_payload_forward_runs.specs.declared.switch_run.Source.{Source}
 use Rattle.codec_payload_forward_runs.specs.declared.switch_run.Source.TheVariants as sources
 use Rattle.codec_payload_forward_runs.specs.declared.switch_run.SwitchStep.{SwitchStep}
 use Rattle.codec_payload_forward_runs.specs.declared.switch_run.SwitchStep.TheVariants as steps
