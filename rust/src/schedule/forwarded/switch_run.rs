@@ -99,13 +99,21 @@ fn do_switch_step<P: Packetizer, D: Depacketizer>(
         SwitchStep::Of(Source::First, step) => {
             do_forward_step(&mut link.link, samples, step, &mut run.run)
         }
-        SwitchStep::Of(Source::Second, step) => {
-            swap_sources(link, run);
-            let done = do_forward_step(&mut link.link, samples, step, &mut run.run);
-            swap_sources(link, run);
-            done
-        }
+        SwitchStep::Of(Source::Second, step) => do_second_step(link, samples, step, run),
     }
+}
+
+/// Executes one step with the second source.
+fn do_second_step<P: Packetizer, D: Depacketizer>(
+    link: &mut SwitchLink<P, D>,
+    samples: &[ToPayload],
+    step: ForwardStep,
+    run: &mut SwitchedRun,
+) -> Result<(), PacketError> {
+    swap_sources(link, run);
+    let done = do_forward_step(&mut link.link, samples, step, &mut run.run);
+    swap_sources(link, run);
+    done
 }
 
 /// Exchanges the sources, and what they sent.
