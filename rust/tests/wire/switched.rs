@@ -15,7 +15,7 @@ use codec_payload::sender::{Sender, SenderSettings};
 use codec_payload::vp8::Vp8Packetizer;
 use codec_payload::wire::{Codec, Ticks, ToPayload};
 
-/// How many blocks of eight frames each source sends; a frame has two datagrams, and each eighth is a keyframe.
+/// How many blocks of eight frames each source sends. Each eighth frame is a keyframe.
 const BLOCKS: usize = 12;
 
 /// How many frames each source sends.
@@ -85,13 +85,33 @@ fn link_of(ids: [Option<u16>; 2]) -> Result<SwitchLink<NoBox, NoBox>, Fail> {
     })
 }
 
+/// Two sources of Opus, whose frames have one datagram each.
+fn opus_link() -> Result<SwitchLink<NoBox, NoBox>, Fail> {
+    let sender = |ssrc| -> Result<Sender<NoBox>, Fail> {
+        let settings = SenderSettings {
+            ssrc,
+            mtu: 7,
+            ..sender_settings()?
+        };
+        let pack = CodecPacketizer::from_codec(Codec::Opus).ok_or("no packetizer")?;
+        Ok(Sender::new(pack, settings).map_err(|_| "settings out of range")?)
+    };
+    Ok(SwitchLink {
+        link: link_with(Codec::Opus, sender(ssrc_of(Source::First))?)?,
+        second: sender(ssrc_of(Source::Second))?,
+    })
+}
+
 /// A datagram of a source.
 type Sent = (Source, usize);
 
 /// The steps, and what a plain model of the forwarder says.
-#[derive(Default)]
 struct Schedule {
     steps: Vec<SwitchStep>,
+    /// How many datagrams a frame has.
+    per_frame: usize,
+    /// The forwarder begins with a datagram whose index is a multiple of this.
+    begins_each: usize,
     /// Which datagram each written one is.
     written: Vec<Sent>,
     /// Which datagrams came to the viewer.
@@ -130,7 +150,7 @@ impl Schedule {
                     self.written.push((source, datagram));
                 }
             }
-            _ if wanted == source && datagram.is_multiple_of(16) => {
+            _ if wanted == source && datagram.is_multiple_of(self.begins_each) => {
                 if source == Source::Second {
                     let highest = self.written.iter().map(|(_, datagram)| datagram + 1).max();
                     self.switch = Some((highest.unwrap_or(0), datagram));
@@ -151,13 +171,14 @@ impl Schedule {
                 self.of(source, ForwardStep::Send(sample_in(source, frame)));
             }
         }
-        let wants_at = following(seed) as usize % 16;
-        for place in 0..16 {
+        let wants_at = following(seed) as usize % (8 * self.per_frame);
+        let count = 8 * self.per_frame;
+        for place in 0..count {
             if block == switch_in && place == wants_at {
                 self.want_second();
             }
             for source in [Source::First, Source::Second] {
-                let datagram = 16 * block + place * 7 % 16;
+                let datagram = count * block + place * 7 % count;
                 for _ in 0..copies(seed, true) {
                     self.forward(source, datagram);
                 }
@@ -175,14 +196,13 @@ impl Schedule {
         }
     }
 
-    /// Whether both datagrams of a frame came.
+    /// Whether all datagrams of a frame came.
     fn is_whole(&self, source: Source, frame: usize) -> bool {
-        [2 * frame, 2 * frame + 1]
-            .iter()
-            .all(|datagram| self.came.contains(&(source, *datagram)))
+        let mut datagrams = frame * self.per_frame..(frame + 1) * self.per_frame;
+        datagrams.all(|datagram| self.came.contains(&(source, datagram)))
     }
 
-    /// The bytes of the frames of a source from one on, up to another, whose datagrams both came.
+    /// The bytes of the frames of a source from one on, up to another, whose datagrams all came.
     fn whole_in(&self, source: Source, frames: std::ops::Range<usize>) -> Vec<u8> {
         frames
             .filter(|frame| self.is_whole(source, *frame))
@@ -195,15 +215,24 @@ impl Schedule {
         let Some((cut, start)) = self.switch else {
             return self.whole_in(Source::First, 0..FRAMES);
         };
-        let mut bytes = self.whole_in(Source::First, 0..cut / 2);
-        bytes.extend(self.whole_in(Source::Second, start / 2..FRAMES));
+        let mut bytes = self.whole_in(Source::First, 0..cut / self.per_frame);
+        bytes.extend(self.whole_in(Source::Second, start / self.per_frame..FRAMES));
         bytes
     }
 }
 
-fn schedule_of(mut seed: u32) -> Schedule {
+fn schedule_of(mut seed: u32, per_frame: usize, begins_each: usize) -> Schedule {
     following(&mut seed);
-    let mut schedule = Schedule::default();
+    let mut schedule = Schedule {
+        steps: Vec::new(),
+        per_frame,
+        begins_each,
+        written: Vec::new(),
+        came: Vec::new(),
+        begun: None,
+        switch: None,
+        is_second_wanted: false,
+    };
     let switch_in = 2 + following(&mut seed) as usize % 4;
     for block in 0..BLOCKS {
         schedule.block(block, switch_in, &mut seed);
@@ -219,7 +248,7 @@ fn popped_in(run: &SwitchedRun) -> Result<Vec<u8>, Fail> {
 fn frames_of_both_sources_come_out() -> Result<(), Fail> {
     let mut inside = 0;
     for seed in 0..60 {
-        let schedule = schedule_of(seed);
+        let schedule = schedule_of(seed, 2, 16);
         for ids in IDS {
             let mut link = link_of(ids)?;
             let run = run_forwarded_switching(&mut link, &samples(), &schedule.steps)?;
@@ -236,6 +265,19 @@ fn frames_of_both_sources_come_out() -> Result<(), Fail> {
     Ok(())
 }
 
+#[test]
+fn frames_of_opus_come_out() -> Result<(), Fail> {
+    for seed in 0..60 {
+        let schedule = schedule_of(seed, 1, 1);
+        let mut link = opus_link()?;
+        let run = run_forwarded_switching(&mut link, &samples(), &schedule.steps)?;
+        assert!(schedule.switch.is_some());
+        assert_eq!(run.run.written.len(), schedule.written.len(), "seed {seed}");
+        assert_eq!(popped_in(&run)?, schedule.wanted(), "seed {seed}");
+    }
+    Ok(())
+}
+
 /// The datagrams of a source.
 fn datagrams_of(run: &SwitchedRun, source: Source) -> &[Vec<u8>] {
     match source {
@@ -247,7 +289,7 @@ fn datagrams_of(run: &SwitchedRun, source: Source) -> &[Vec<u8>] {
 #[test]
 fn numbers_go_on_by_one_at_the_switch() -> Result<(), Fail> {
     for seed in 0..20 {
-        let schedule = schedule_of(seed);
+        let schedule = schedule_of(seed, 2, 16);
         let mut link = link_of([None, None])?;
         let run = run_forwarded_switching(&mut link, &samples(), &schedule.steps)?;
         let (cut, start) = schedule.switch.ok_or("no switch")?;
