@@ -1,5 +1,5 @@
 -- What a forwarder writes in a run with two sources.
-use Rattle.std.proofs.Common.{◌≡◌, ◌∙◌, refl, sym, ap, subst, ℕ, ◌+◌, List, [], ◌∷◌, ◌++◌, append-nil, append_assoc, inl, inr, true, false, Option, Some, None, Ok, Result, arith}
+use Rattle.std.proofs.Common.{◌≡◌, ◌∙◌, refl, sym, ap, subst, ℕ, List, [], ◌∷◌, ◌++◌, append-nil, append_assoc, inl, inr, true, false, Option, Some, None, Ok, Result, arith}
 use Rattle.std.specs.Prelude.{slice_get}
 use Rattle.codec_payload_base.specs.declared.wire.Codec.{Codec}
 use Rattle.codec_payload_payloader.specs.Sending.{Sample}
