@@ -23,6 +23,12 @@ pub mod StoreLemmas
 pub mod StoreReleaseLemmas
 pub mod StoreRunExamples
 pub mod StoreViewerRuns
+pub mod SwitchEvents
+pub mod SwitchLemmas
+pub mod SwitchNumbers
+pub mod SwitchRunExamples
+pub mod SwitchSteps
+pub mod SwitchStreams
 pub mod ViewerLemmas
 pub mod ViewerReleases
 pub mod ViewerRuns

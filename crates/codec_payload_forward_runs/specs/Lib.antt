@@ -8,3 +8,6 @@ pub mod LeaveRuns
 pub mod StoreReleases
 pub mod StoreRunExample
 pub mod StoreRuns
+pub mod SwitchReleases
+pub mod SwitchRunExample
+pub mod SwitchRuns

@@ -5,4 +5,5 @@
 pub mod leave_run;
 pub mod run;
 pub mod store_run;
+pub mod switch_run;
 pub mod theorems;

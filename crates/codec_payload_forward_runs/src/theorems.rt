@@ -4,6 +4,7 @@ ghost use Rattle.codec_payload_forward_runs.specs.FirstHop.{ReadsAsSent};
 ghost use Rattle.codec_payload_forward_runs.specs.ForwardRunExample.{ForwardingCanBeMet};
 ghost use Rattle.codec_payload_forward_runs.specs.LeaveRunExample.{LeavingCanBeMet};
 ghost use Rattle.codec_payload_forward_runs.specs.StoreRunExample.{StoreCanBeMet};
+ghost use Rattle.codec_payload_forward_runs.specs.SwitchRunExample.{SwitchingCanBeMet};
 
 /// The premises of a run with a forwarder can be met: datagrams of Opus come to the forwarder in another order, and to the viewer in
 /// another one again. All come on both hops before the stream ends. Frames of VP8 meet them too, whose forwarder begins at a keyframe,
@@ -22,6 +23,12 @@ pub fn leaving_premises_can_be_met()
 /// viewer requests the frame's number, and the forwarder writes the packet again, as a retransmission.
 pub fn store_premises_can_be_met()
     ensures { StoreCanBeMet }
+{}
+
+/// The premises of a run with two sources can be met: the forwarder begins with a source of Opus, and goes over to another one. The two
+/// packets that it writes have consecutive numbers.
+pub fn switching_premises_can_be_met()
+    ensures { SwitchingCanBeMet }
 {}
 
 /// A packet that the sender retransmitted on the first hop (RFC 4588), and that was unwrapped (`OriginalStream::write`), reads as

@@ -9,6 +9,8 @@ pub mod leave_run;
 pub mod run;
 #[doc(hidden)]
 pub mod store_run;
+#[doc(hidden)]
+pub mod switch_run;
 
 #[doc(inline)]
 pub use leave_run::{LeaveStep, run_forwarded_leaving_out};
@@ -20,3 +22,8 @@ pub use run::{
 
 #[doc(inline)]
 pub use store_run::{StoreLink, StoreRun, StoreStep, run_forwarded_with_store};
+
+#[doc(inline)]
+pub use switch_run::{
+    Source, SourceRun, SwitchLink, SwitchStep, SwitchedRun, run_forwarded_switching,
+};

@@ -44,7 +44,7 @@ pub fn link_with(codec: Codec, sender: Sender<NoBox>) -> Result<ForwardLink<NoBo
         ssrc: Some(0x7777),
         ..receiver_settings(AT_ONCE)?
     };
-    let depacketizer = CodecDepacketizer::from_codec(Codec::Vp8).ok_or("no depacketizer")?;
+    let depacketizer = CodecDepacketizer::from_codec(codec).ok_or("no depacketizer")?;
     Ok(ForwardLink {
         sender,
         forwarder,

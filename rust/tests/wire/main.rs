@@ -14,6 +14,7 @@ mod restarted;
 mod rows;
 mod served;
 mod sides;
+mod switched;
 mod with_ids;
 
 /// Why a test fails.
