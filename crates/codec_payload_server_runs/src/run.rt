@@ -266,7 +266,7 @@ fn repeat<P: Packetizer, D: Depacketizer>(
 /// # Errors
 ///
 /// Out of memory for the record: the session is unchanged.
-fn take_in(
+pub(crate) fn take_in(
     session: &mut Session,
     stream: OriginalStream,
     at: Moment,
@@ -301,7 +301,7 @@ fn is_taken_as(stream: OriginalStream, arrival: &Result<Arrival, AllocError>) ->
 
 /// Writes the retransmission of a datagram under the first number of a stream of retransmissions. `None`: the datagram is no packet, or
 /// one of both payload types is above 127.
-fn retransmission_of(
+pub(crate) fn retransmission_of(
     alloc: Global,
     stream: OriginalStream,
     again: RetransmissionStream,
@@ -329,7 +329,7 @@ fn retransmission_of(
 }
 
 /// Passes a datagram to the forwarder, and records what the forwarder did with it.
-fn forward_bytes(
+pub(crate) fn forward_bytes(
     alloc: Global,
     forwarder: &mut Forwarder,
     time: u64,

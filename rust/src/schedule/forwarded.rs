@@ -11,7 +11,7 @@ pub mod run;
 pub mod store_run;
 
 #[doc(inline)]
-pub use leave_run::{LeaveStep, run_forwarded_leaving_out};
+pub use leave_run::{LeaveStep, do_leave_step, leave_out, run_forwarded_leaving_out};
 
 #[doc(inline)]
 pub use run::{
@@ -19,4 +19,4 @@ pub use run::{
 };
 
 #[doc(inline)]
-pub use store_run::{StoreLink, StoreRun, StoreStep, run_forwarded_with_store};
+pub use store_run::{StoreLink, StoreRun, StoreStep, do_store_step, run_forwarded_with_store};
