@@ -5,7 +5,7 @@ ghost use Rattle.std.specs.declared.alloc.AllocError.{AllocError as NoMemory};
 ghost use Rattle.codec_payload_base.specs.declared.error.PacketError.TheVariants.{OutOfMemory};
 ghost use Rattle.codec_payload_payloader.specs.Sending.{sample_of};
 ghost use Rattle.codec_payload_receiver.specs.Sessions.{Session as Receiver};
-ghost use Rattle.codec_payload_rtp.specs.RtpPackets.{Packet};
+ghost use Rattle.codec_payload_rtp.specs.RtpPackets.{IsRtp, Packet};
 ghost use Rattle.codec_payload_sending.specs.Senders.{Sending};
 ghost use Rattle.codec_payload_session.specs.Accepting.{Accepts, time_for};
 ghost use Rattle.codec_payload_session.specs.declared.session.Arrival.{Arrival as TheArrival};
@@ -307,7 +307,7 @@ pub(crate) fn retransmission_of(
     again: RetransmissionStream,
     datagram: &[u8],
 ) -> Result<Option<Vec<u8>>, AllocError>
-    ensures { IfOk result (λ made. MatchOption made (repeated_in stream again (Option.Some datagram.now) ≡ Option.None) (λ bytes. (packet : Packet) × (repeated_in stream again (Option.Some datagram.now) ≡ Option.Some packet) × IsAgain again packet bytes.items)) }
+    ensures { IfOk result (λ made. MatchOption made (repeated_in stream again (Option.Some datagram.now) ≡ Option.None) (λ bytes. (packet : Packet) × (repeated_in stream again (Option.Some datagram.now) ≡ Option.Some packet) × IsAgain again packet bytes.items × IsRtp datagram.now packet)) }
 {
     if stream.payload_type > 127 || again.payload_type > 127 {
         return Ok(None);

@@ -1,7 +1,8 @@
 //! What a media server does with what comes to its session, whatever stands behind the session.
 
-ghost use Rattle.std.specs.Prelude.{◌≡◌, ◌++◌, ◌∷◌, [], List, ℕ, Option, MatchOption, IfOk, IfErr, OnOk, OnErr, slice_get};
+ghost use Rattle.std.specs.Prelude.{◌≡◌, ◌++◌, ◌∷◌, [], List, ℕ, false, Option, MatchOption, IfOk, IfErr, OnOk, OnErr, slice_get};
 ghost use Rattle.codec_payload_base.specs.declared.error.PacketError.TheVariants.{OutOfMemory};
+ghost use Rattle.std.specs.Global.{Vec as TheVec};
 ghost use Rattle.codec_payload_datagram_runs.specs.WireRuns.{bytes_in};
 ghost use Rattle.codec_payload_rtp.specs.RtpPackets.{Packet};
 ghost use Rattle.codec_payload_sending_history.specs.Originals.{WritesOriginal};
@@ -81,7 +82,7 @@ pub(crate) fn take_sent(
     datagrams: &[Vec<u8>],
     answers: &mut Vec<StepAnswer>,
 ) -> Result<bool, AllocError>
-    ensures none { IfOk result (λ taken. MatchOption (slice_get (bytes_in datagrams.now) coming.datagram) ((taken ≡ Bool.false) × (session.new ≡ session.old) × (answers.new.items ≡ answers.old.items)) (λ bytes. (datagram : Vec ℕ) × (datagram.items ≡ bytes) × Takes stream coming.at datagram.items taken session.old session.new answers.old.items answers.new.items)) }
+    ensures ok { IfOk result (λ taken. MatchOption (slice_get (bytes_in datagrams.now) coming.datagram) ((taken ≡ false) × (session.new ≡ session.old) × (answers.new.items ≡ answers.old.items)) (λ bytes. (datagram : TheVec ℕ) × (datagram.items ≡ bytes) × Takes stream coming.at datagram.items taken session.old session.new answers.old.items answers.new.items)) }
     ensures err { OnErr result ((bytes : List ℕ) × (slice_get (bytes_in datagrams.now) coming.datagram ≡ Option.Some bytes) × (session.new ≡ session.old)) }
 {
     let Some(bytes) = datagrams.get(coming.datagram) else {

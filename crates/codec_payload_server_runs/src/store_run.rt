@@ -1,13 +1,14 @@
 //! Whole runs of a media server with a store: what the session takes as one of the stream comes to the store and to the forwarder, and
 //! the forwarder answers the viewer's requests from the store.
 
-ghost use Rattle.std.specs.Prelude.{◌≡◌, [], map, true, false, Option, IfOk, IfErr, OnOk, OnErr};
+ghost use Rattle.std.specs.Prelude.{◌≡◌, [], map, Option, IfOk, IfErr, OnOk, OnErr};
 ghost use Rattle.codec_payload_base.specs.declared.error.PacketError.TheVariants.{OutOfMemory};
 ghost use Rattle.codec_payload_payloader.specs.Sending.{sample_of};
 ghost use Rattle.codec_payload_forward_runs.specs.StoreRuns.{KeepsPacket};
 ghost use Rattle.codec_payload_server_runs.specs.ServeStoreReleases.{ReleasesServedWithStore, ServesStoreAsSession};
 ghost use Rattle.codec_payload_server_runs.specs.ServeStoreRuns.{DoesServeStoreStep, DoesWithStore, PassesToStore, ServeStoreRuns, ServeStoreStops, ServeStoreStopsAt, StopsPassing, StopsWithStore, StaysAll, begins_serving_with_store, left_by, served_store_of};
-ghost use Rattle.codec_payload_server_runs.specs.Serving.{hop_of};
+ghost use Rattle.codec_payload_server_runs.specs.Serving.{ComesTo, PassesUnwrapped, StopsComing, StopsUnwrapping, hop_of, serves};
+ghost use Rattle.codec_payload_server_runs.specs.declared.run.ServeStep.TheVariants.{Arrive};
 
 use crate::run::{ServeStep, forward_bytes, take_in};
 use crate::serving::{Coming, again_of, call, hop_of, original_of, take_sent};
@@ -150,6 +151,10 @@ fn come<P: Packetizer, D: Depacketizer>(
     run: &mut ServedStoreRun,
 ) -> Result<(), PacketError>
     requires { hop_of step.now ≡ Option.None }
+    ensures ok { OnOk result (DoesWithStore link.old.stream [] (serves plain step.now) (served_store_of link.old.link.link.sender link.old.link.link.forwarder link.old.link.link.receiver link.old.link.store link.old.session run.old) (served_store_of link.new.link.link.sender link.new.link.link.forwarder link.new.link.link.receiver link.new.link.store link.new.session run.new)) }
+    ensures stream { link.new.stream ≡ link.old.stream }
+    ensures err { OnErr result (StopsWithStore link.old.stream [] (serves plain step.now) (served_store_of link.old.link.link.sender link.old.link.link.forwarder link.old.link.link.receiver link.old.link.store link.old.session run.old) (left_by link.new.link.link.sender link.new.link.link.forwarder link.new.link.link.receiver link.new.link.store) link.new.session) }
+    ensures fault { IfErr result (λ fault. fault ≡ OutOfMemory) }
 {
     match step {
         ServeStep::Arrive { datagram, at } => {
@@ -191,7 +196,12 @@ fn arrive<P: Packetizer, D: Depacketizer>(
     link: &mut ServeStoreLink<P, D>,
     coming: Coming,
     run: &mut ServedStoreRun,
-) -> Result<(), PacketError> {
+) -> Result<(), PacketError>
+    ensures ok { OnOk result (DoesWithStore link.old.stream [] (serves coming.plain (Arrive coming.datagram coming.at)) (served_store_of link.old.link.link.sender link.old.link.link.forwarder link.old.link.link.receiver link.old.link.store link.old.session run.old) (served_store_of link.new.link.link.sender link.new.link.link.forwarder link.new.link.link.receiver link.new.link.store link.new.session run.new)) }
+    ensures stream { link.new.stream ≡ link.old.stream }
+    ensures err { OnErr result (StopsWithStore link.old.stream [] (serves coming.plain (Arrive coming.datagram coming.at)) (served_store_of link.old.link.link.sender link.old.link.link.forwarder link.old.link.link.receiver link.old.link.store link.old.session run.old) (left_by link.new.link.link.sender link.new.link.link.forwarder link.new.link.link.receiver link.new.link.store) link.new.session) }
+    ensures fault { IfErr result (λ fault. fault ≡ OutOfMemory) }
+{
     let datagrams = &run.run.run.run.datagrams;
     let taken = take_sent(
         &mut link.session,
@@ -220,7 +230,12 @@ fn repeat<P: Packetizer, D: Depacketizer>(
     retransmission: &[u8],
     coming: Coming,
     run: &mut ServedStoreRun,
-) -> Result<(), PacketError> {
+) -> Result<(), PacketError>
+    ensures ok { OnOk result (ComesTo link.old.stream coming.at retransmission.now (PassesUnwrapped link.old.stream retransmission.now (PassesToStore coming.plain coming.at.time)) (served_store_of link.old.link.link.sender link.old.link.link.forwarder link.old.link.link.receiver link.old.link.store link.old.session run.old) (served_store_of link.new.link.link.sender link.new.link.link.forwarder link.new.link.link.receiver link.new.link.store link.new.session run.new)) }
+    ensures stream { link.new.stream ≡ link.old.stream }
+    ensures err { OnErr result (StopsComing link.old.stream coming.at retransmission.now (StaysAll (left_by link.new.link.link.sender link.new.link.link.forwarder link.new.link.link.receiver link.new.link.store)) (StopsUnwrapping link.old.stream retransmission.now (StaysAll (left_by link.new.link.link.sender link.new.link.link.forwarder link.new.link.link.receiver link.new.link.store)) (StopsPassing (left_by link.new.link.link.sender link.new.link.link.forwarder link.new.link.link.receiver link.new.link.store) coming.plain)) (served_store_of link.old.link.link.sender link.old.link.link.forwarder link.old.link.link.receiver link.old.link.store link.old.session run.old) link.new.session) }
+    ensures fault { IfErr result (λ fault. fault ≡ OutOfMemory) }
+{
     let taken = take_in(
         &mut link.session,
         link.stream,
