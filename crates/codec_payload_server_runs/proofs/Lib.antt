@@ -3,6 +3,7 @@ pub mod SenderPackets
 pub mod ServeLemmas
 pub mod ServeRunExamples
 pub mod ServeStoreRunExamples
+pub mod ServedLeavingReleases
 pub mod ServedReleases
 pub mod ServedStoreReleases
 pub mod ServingLemmas

@@ -1,3 +1,5 @@
+pub mod ServeLeaveReleases
+pub mod ServeLeaveRuns
 pub mod ServeReleases
 pub mod ServeRunExample
 pub mod ServeRuns

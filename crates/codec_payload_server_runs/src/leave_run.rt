@@ -1,5 +1,16 @@
 //! Whole runs of a media server that leaves packets out, such as those of frames that the viewer does not want.
 
+ghost use Rattle.std.specs.Prelude.{◌≡◌, [], ℕ, false, map, Option, IfOk, IfErr, OnOk, OnErr};
+ghost use Rattle.codec_payload_base.specs.declared.error.PacketError.TheVariants.{OutOfMemory};
+ghost use Rattle.codec_payload_payloader.specs.Sending.{sample_of};
+ghost use Rattle.codec_payload_receiver.specs.Sessions.{Session as Receiver};
+ghost use Rattle.codec_payload_sending.specs.Senders.{Sending};
+ghost use Rattle.codec_payload_forward_runs.specs.ForwardRuns.{hops_of};
+ghost use Rattle.codec_payload_server_runs.specs.ServeLeaveReleases.{ReleasesServedLeavingOut, ServesKept, ServesLeavingAsSession};
+ghost use Rattle.codec_payload_server_runs.specs.ServeLeaveRuns.{DoesLeavingOut, DoesServeLeaveStep, PassesOrIsLeftOut, ServeLeaveRuns, ServeLeaveStops, ServeLeaveStopsAt, StaysAll, StopsLeavingOut, StopsPassing, begins_serving_leaving_out, left_by, serving_of};
+ghost use Rattle.codec_payload_server_runs.specs.Serving.{ComesTo, PassesUnwrapped, StopsComing, StopsUnwrapping, hop_of, serves};
+ghost use Rattle.codec_payload_server_runs.specs.declared.run.ServeStep.TheVariants.{Arrive};
+
 use crate::run::{ServeLink, ServeStep, ServedRun, forward_bytes, take_in};
 use crate::serving::{Coming, again_of, call, hop_of, original_of, take_sent};
 use codec_payload_base::error::PacketError;
@@ -34,7 +45,18 @@ pub fn run_served_leaving_out<P: Packetizer, D: Depacketizer>(
     link: &mut ServeLink<P, D>,
     samples: &[ToPayload],
     steps: &[ServeLeaveStep],
-) -> Result<ServedRun, PacketError> {
+) -> Result<ServedRun, PacketError>
+    ensures runs { IfOk result (λ run. ServeLeaveRuns link.old.stream (map sample_of samples.now) steps.now (begins_serving_leaving_out link.old.link.sender link.old.link.forwarder link.old.link.receiver link.old.session) (serving_of link.new.link.sender link.new.link.forwarder link.new.link.receiver link.new.session run)) }
+    // The session: it gets the datagrams that arrive, beside all other calls. So each of its streams is a receiver alone.
+    ensures session { IfOk result (λ run. ServesLeavingAsSession link.old.stream (map sample_of samples.now) steps.now (begins_serving_leaving_out link.old.link.sender link.old.link.forwarder link.old.link.receiver link.old.session) (serving_of link.new.link.sender link.new.link.forwarder link.new.link.receiver link.new.session run)) }
+    // What the forwarder writes, if whole frames are left out: numbers and picture ids close up.
+    ensures forwards { IfOk result (λ run. ServesKept link.old.stream (map sample_of samples.now) steps.now (begins_serving_leaving_out link.old.link.sender link.old.link.forwarder link.old.link.receiver link.old.session) (serving_of link.new.link.sender link.new.link.forwarder link.new.link.receiver link.new.session run)) }
+    // The units that the viewer's receiver releases, if whole frames are left out, and what is delivered arrives within its windows.
+    ensures units { IfOk result (λ run. ReleasesServedLeavingOut link.old.stream (map sample_of samples.now) steps.now (begins_serving_leaving_out link.old.link.sender link.old.link.forwarder link.old.link.receiver link.old.session) (serving_of link.new.link.sender link.new.link.forwarder link.new.link.receiver link.new.session run)) }
+    ensures stream { link.new.stream ≡ link.old.stream }
+    ensures stops { OnErr result (ServeLeaveStops link.old.stream (map sample_of samples.now) steps.now (begins_serving_leaving_out link.old.link.sender link.old.link.forwarder link.old.link.receiver link.old.session) (left_by link.new.link.sender link.new.link.forwarder link.new.link.receiver) link.new.session) }
+    ensures fault { IfErr result (λ fault. fault ≡ OutOfMemory) }
+{
     let mut run = ServedRun {
         run: no_results(alloc),
         answers: Vec::new(alloc),
@@ -52,7 +74,12 @@ fn do_serve_leave_step<P: Packetizer, D: Depacketizer>(
     samples: &[ToPayload],
     step: &ServeLeaveStep,
     run: &mut ServedRun,
-) -> Result<(), PacketError> {
+) -> Result<(), PacketError>
+    ensures ok { OnOk result (DoesServeLeaveStep link.old.stream (map sample_of samples.now) step.now (serving_of link.old.link.sender link.old.link.forwarder link.old.link.receiver link.old.session run.old) (serving_of link.new.link.sender link.new.link.forwarder link.new.link.receiver link.new.session run.new)) }
+    ensures stream { link.new.stream ≡ link.old.stream }
+    ensures err { OnErr result (ServeLeaveStopsAt link.old.stream (map sample_of samples.now) step.now (serving_of link.old.link.sender link.old.link.forwarder link.old.link.receiver link.old.session run.old) (left_by link.new.link.sender link.new.link.forwarder link.new.link.receiver) link.new.session) }
+    ensures fault { IfErr result (λ fault. fault ≡ OutOfMemory) }
+{
     match step {
         ServeLeaveStep::Plain(step) => {
             match hop_of(step) {
@@ -76,7 +103,13 @@ fn come<P: Packetizer, D: Depacketizer>(
     step: &ServeStep,
     plain: bool,
     run: &mut ServedRun,
-) -> Result<(), PacketError> {
+) -> Result<(), PacketError>
+    requires { hop_of step.now ≡ Option.None }
+    ensures ok { OnOk result (DoesLeavingOut link.old.stream [] (serves plain step.now) (serving_of link.old.link.sender link.old.link.forwarder link.old.link.receiver link.old.session run.old) (serving_of link.new.link.sender link.new.link.forwarder link.new.link.receiver link.new.session run.new)) }
+    ensures stream { link.new.stream ≡ link.old.stream }
+    ensures err { OnErr result (StopsLeavingOut link.old.stream [] (serves plain step.now) (serving_of link.old.link.sender link.old.link.forwarder link.old.link.receiver link.old.session run.old) (left_by link.new.link.sender link.new.link.forwarder link.new.link.receiver) link.new.session) }
+    ensures fault { IfErr result (λ fault. fault ≡ OutOfMemory) }
+{
     match step {
         ServeStep::Arrive { datagram, at } => {
             let coming = Coming {
@@ -117,7 +150,12 @@ fn arrive<P: Packetizer, D: Depacketizer>(
     link: &mut ServeLink<P, D>,
     coming: Coming,
     run: &mut ServedRun,
-) -> Result<(), PacketError> {
+) -> Result<(), PacketError>
+    ensures ok { OnOk result (DoesLeavingOut link.old.stream [] (serves coming.plain (Arrive coming.datagram coming.at)) (serving_of link.old.link.sender link.old.link.forwarder link.old.link.receiver link.old.session run.old) (serving_of link.new.link.sender link.new.link.forwarder link.new.link.receiver link.new.session run.new)) }
+    ensures stream { link.new.stream ≡ link.old.stream }
+    ensures err { OnErr result (StopsLeavingOut link.old.stream [] (serves coming.plain (Arrive coming.datagram coming.at)) (serving_of link.old.link.sender link.old.link.forwarder link.old.link.receiver link.old.session run.old) (left_by link.new.link.sender link.new.link.forwarder link.new.link.receiver) link.new.session) }
+    ensures fault { IfErr result (λ fault. fault ≡ OutOfMemory) }
+{
     let datagrams = &run.run.run.datagrams;
     let taken = take_sent(
         &mut link.session,
@@ -146,7 +184,12 @@ fn repeat<P: Packetizer, D: Depacketizer>(
     retransmission: &[u8],
     coming: Coming,
     run: &mut ServedRun,
-) -> Result<(), PacketError> {
+) -> Result<(), PacketError>
+    ensures ok { OnOk result (ComesTo link.old.stream coming.at retransmission.now (PassesUnwrapped link.old.stream retransmission.now (PassesOrIsLeftOut coming.plain coming.at.time)) (serving_of link.old.link.sender link.old.link.forwarder link.old.link.receiver link.old.session run.old) (serving_of link.new.link.sender link.new.link.forwarder link.new.link.receiver link.new.session run.new)) }
+    ensures stream { link.new.stream ≡ link.old.stream }
+    ensures err { OnErr result (StopsComing link.old.stream coming.at retransmission.now (StaysAll (left_by link.new.link.sender link.new.link.forwarder link.new.link.receiver)) (StopsUnwrapping link.old.stream retransmission.now (StaysAll (left_by link.new.link.sender link.new.link.forwarder link.new.link.receiver)) (StopsPassing (left_by link.new.link.sender link.new.link.forwarder link.new.link.receiver) coming.plain)) (serving_of link.old.link.sender link.old.link.forwarder link.old.link.receiver link.old.session run.old) link.new.session) }
+    ensures fault { IfErr result (λ fault. fault ≡ OutOfMemory) }
+{
     let taken = take_in(
         &mut link.session,
         link.stream,
@@ -172,7 +215,11 @@ fn leave_bytes(
     forwarder: &mut Forwarder,
     datagram: &[u8],
     run: &mut ForwardedRun,
-) -> Result<(), PacketError> {
+) -> Result<(), PacketError>
+    ensures ok { OnOk result ((time : ℕ) (sending : Sending) (receiver : Receiver) → PassesOrIsLeftOut false time datagram.now (hops_of sending forwarder.old receiver run.old) (hops_of sending forwarder.new receiver run.new)) }
+    ensures err { OnErr result (forwarder.new ≡ forwarder.old) }
+    ensures fault { IfErr result (λ fault. fault ≡ OutOfMemory) }
+{
     let Ok(packet) = RtpPacket::parse(datagram) else {
         return Ok(());
     };
