@@ -23,7 +23,7 @@ pub const STREAM: OriginalStream = OriginalStream {
 const OTHERS: [u32; 2] = [60, 61];
 pub const LEAVES: usize = 2;
 
-fn format_of(payload_type: u8, codec: Codec, rate: u32) -> Result<Format, Fail> {
+pub fn format_of(payload_type: u8, codec: Codec, rate: u32) -> Result<Format, Fail> {
     let spec = CodecSpec {
         codec,
         clock_rate: Frequency::make(rate).ok_or("a rate")?,

@@ -5,15 +5,18 @@
 
 use crate::Fail;
 use crate::forwarded::{BLOCKS, copies, following, link_again, popped_in, samples};
-use crate::served::{LEAVES, Plan, STREAM, session, taken_by};
+use crate::forwarded_again::{compare_with_theorem, link_of_opus, opus_samples};
+use crate::served::{LEAVES, Plan, STREAM, format_of, session, taken_by};
 use crate::sides::sender_of;
 use codec_payload::codec::NoBox;
-use codec_payload::history::{History, HistorySettings, RetransmissionStream};
+use codec_payload::history::{History, HistorySettings, OriginalStream, RetransmissionStream};
 use codec_payload::rtp::RtpPacket;
 use codec_payload::schedule::forwarded::StoreLink;
 use codec_payload::schedule::served::{
-    ServeStep, ServeStoreLink, ServeStoreStep, ServedStoreRun, run_served_with_store,
+    Moment, ServeStep, ServeStoreLink, ServeStoreStep, ServedStoreRun, run_served_with_store,
 };
+use codec_payload::session::runs::{SessionStep, StepAnswer};
+use codec_payload::session::{Arrival, Format, Session, SessionSettings, SsrcPair};
 use codec_payload::wire::{Codec, Ticks};
 
 const AGAIN: RetransmissionStream = RetransmissionStream {
@@ -224,4 +227,90 @@ fn a_viewer_joins_late() -> Result<(), Fail> {
         assert!(early.count() > 10 && (joins < 25 || run.run.run.answers.is_empty()));
     }
     Ok(())
+}
+
+/// The sender, the forwarder, the receiver and the store of the theorem `serving_with_store_premises_can_be_met`, which are those of
+/// `store_premises_can_be_met`.
+fn link_of_theorem() -> Result<ServeStoreLink<NoBox, NoBox>, Fail> {
+    let mut settings = SessionSettings::live();
+    settings.formats = vec![Format {
+        retransmission: Some(112),
+        ..format_of(111, Codec::Opus, 48_000)?
+    }];
+    settings.pairs = vec![SsrcPair {
+        ssrc: 7,
+        retransmission: 8,
+    }];
+    settings.probation = 1;
+    Ok(ServeStoreLink {
+        link: link_of_opus()?,
+        session: Session::new(settings)?,
+        stream: OriginalStream {
+            ssrc: 7,
+            payload_type: 111,
+        },
+    })
+}
+
+/// The steps of that theorem: the second datagram is lost on the first hop and comes as a retransmission. It is lost on the second hop
+/// too, and comes from the store.
+fn steps_of_theorem() -> Vec<ServeStoreStep> {
+    let at = |time| Moment {
+        now: Ticks(time),
+        micros: None,
+        time,
+    };
+    let again = RetransmissionStream {
+        ssrc: 8,
+        payload_type: 112,
+        first_number: 500,
+    };
+    let arrive = |datagram, time| ServeStep::Arrive {
+        datagram,
+        at: at(time),
+    };
+    let deliver = |written, now| ServeStep::Deliver {
+        written,
+        now: Ticks(now),
+    };
+    let call = SessionStep::Poll { now: Ticks(40) };
+    let repeat = ServeStep::Repeat {
+        datagram: 1,
+        again,
+        at: at(960),
+    };
+    let first = [ServeStep::Send(0), arrive(0, 0), ServeStep::Send(1)];
+    let second = [ServeStep::Call(call), repeat, ServeStep::Send(2)];
+    let third = [arrive(2, 1_920), deliver(0, 40), deliver(2, 80)];
+    let hops = [first, second, third].into_iter().flatten();
+    let mut steps: Vec<_> = hops.map(ServeStoreStep::Plain).collect();
+    steps.push(ServeStoreStep::Request { number: 101 });
+    steps.push(ServeStoreStep::DeliverAgain {
+        again: 0,
+        now: Ticks(120),
+    });
+    let pops = (0..3).map(|_| ServeStep::Pop { now: Ticks(121) });
+    let last = std::iter::once(ServeStep::Finish).chain(pops);
+    steps.extend(last.map(ServeStoreStep::Plain));
+    steps
+}
+
+/// The theorem takes as given which datagrams the session takes, and the results of `store_premises_can_be_met`.
+#[test]
+fn the_run_of_the_theorem_pops_all_frames() -> Result<(), Fail> {
+    let mut link = link_of_theorem()?;
+    let run = run_served_with_store(&mut link, &opus_samples()?, &steps_of_theorem())?;
+    let taken = run.answers.iter().map(|answer| {
+        matches!(
+            answer,
+            StepAnswer::Received(Ok(Arrival::Stream {
+                ssrc: 7,
+                payload_type: 111,
+                ..
+            }))
+        )
+    });
+    assert_eq!(taken.collect::<Vec<_>>(), [true, false, true, true]);
+    assert!(matches!(run.answers[1], StepAnswer::Polled(_)));
+    compare_with_theorem(&run.run)
 }
