@@ -7,8 +7,9 @@ ghost use Rattle.codec_payload_receiver.specs.Sessions.{Session as Receiver};
 ghost use Rattle.codec_payload_sending.specs.Senders.{Sending};
 ghost use Rattle.codec_payload_forward_runs.specs.ForwardRuns.{hops_of};
 ghost use Rattle.codec_payload_server_runs.specs.ServeLeaveReleases.{ReleasesServedLeavingOut, ServesKept, ServesLeavingAsSession};
-ghost use Rattle.codec_payload_server_runs.specs.ServeLeaveRuns.{DoesLeavingOut, DoesServeLeaveStep, PassesOrIsLeftOut, ServeLeaveRuns, ServeLeaveStops, ServeLeaveStopsAt, StaysAll, StopsLeavingOut, StopsPassing, begins_serving_leaving_out, left_by, serving_of};
+ghost use Rattle.codec_payload_server_runs.specs.ServeLeaveRuns.{DoesLeavingOut, DoesServeLeaveStep, PassesOrIsLeftOut, ServeLeaveRuns, ServeLeaveStops, ServeLeaveStopsAt, StaysAll, StopsLeavingOut, StopsPassing, begins_serving_leaving_out, left_as, left_by, serving_of};
 ghost use Rattle.codec_payload_server_runs.specs.Serving.{ComesTo, PassesUnwrapped, StopsComing, StopsUnwrapping, hop_of, serves};
+ghost use Rattle.codec_payload_forward_runs.specs.declared.run.ForwardStep.TheVariants.{Forward};
 ghost use Rattle.codec_payload_server_runs.specs.declared.run.ServeStep.TheVariants.{Arrive};
 
 use crate::run::{ServeLink, ServeStep, ServedRun, forward_bytes, take_in};
@@ -167,14 +168,21 @@ fn arrive<P: Packetizer, D: Depacketizer>(
     if !taken {
         return Ok(());
     }
+    let step = passing_step(coming);
+    do_leave_step(alloc, &mut link.link, &[], step, &mut run.run)
+}
+
+/// Returns the step of the run behind the session that passes the datagram on.
+fn passing_step(coming: Coming) -> LeaveStep
+    ensures { result ≡ left_as (Forward coming.datagram coming.at.time) coming.plain }
+{
     let datagram = coming.datagram;
-    let step = if coming.plain {
+    if coming.plain {
         let now = coming.at.time;
         LeaveStep::Plain(ForwardStep::Forward { datagram, now })
     } else {
         LeaveStep::LeaveOut { datagram }
-    };
-    do_leave_step(alloc, &mut link.link, &[], step, &mut run.run)
+    }
 }
 
 /// The retransmission comes to the session, and what it repeats may come to the forwarder.

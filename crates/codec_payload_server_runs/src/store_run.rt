@@ -6,8 +6,9 @@ ghost use Rattle.codec_payload_base.specs.declared.error.PacketError.TheVariants
 ghost use Rattle.codec_payload_payloader.specs.Sending.{sample_of};
 ghost use Rattle.codec_payload_forward_runs.specs.StoreRuns.{KeepsPacket};
 ghost use Rattle.codec_payload_server_runs.specs.ServeStoreReleases.{ReleasesServedWithStore, ServesStoreAsSession};
-ghost use Rattle.codec_payload_server_runs.specs.ServeStoreRuns.{DoesServeStoreStep, DoesWithStore, PassesToStore, ServeStoreRuns, ServeStoreStops, ServeStoreStopsAt, StopsPassing, StopsWithStore, StaysAll, begins_serving_with_store, left_by, served_store_of};
+ghost use Rattle.codec_payload_server_runs.specs.ServeStoreRuns.{DoesServeStoreStep, DoesWithStore, PassesToStore, ServeStoreRuns, ServeStoreStops, ServeStoreStopsAt, StopsPassing, StopsWithStore, StaysAll, begins_serving_with_store, left_by, served_store_of, stored_as};
 ghost use Rattle.codec_payload_server_runs.specs.Serving.{ComesTo, PassesUnwrapped, StopsComing, StopsUnwrapping, hop_of, serves};
+ghost use Rattle.codec_payload_forward_runs.specs.declared.run.ForwardStep.TheVariants.{Forward};
 ghost use Rattle.codec_payload_server_runs.specs.declared.run.ServeStep.TheVariants.{Arrive};
 
 use crate::run::{ServeStep, forward_bytes, take_in};
@@ -213,14 +214,21 @@ fn arrive<P: Packetizer, D: Depacketizer>(
     if !taken {
         return Ok(());
     }
+    let step = passing_step(coming);
+    do_store_step(alloc, &mut link.link, &[], step, &mut run.run)
+}
+
+/// Returns the step of the run with a store that passes the datagram on.
+fn passing_step(coming: Coming) -> StoreStep
+    ensures { result ≡ stored_as (Forward coming.datagram coming.at.time) coming.plain }
+{
     let datagram = coming.datagram;
-    let step = if coming.plain {
+    if coming.plain {
         let now = coming.at.time;
         StoreStep::Plain(ForwardStep::Forward { datagram, now })
     } else {
         StoreStep::Keep { datagram }
-    };
-    do_store_step(alloc, &mut link.link, &[], step, &mut run.run)
+    }
 }
 
 /// The retransmission comes to the session, and what it repeats may come to the store and to the forwarder.
