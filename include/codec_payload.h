@@ -1520,6 +1520,8 @@ typedef enum {
 /** A stream of a session. */
 typedef struct {
     uint64_t taken;       /**< datagrams that the stream received, modulo 2^64 */
+    uint64_t bytes;       /**< bytes of payload of these datagrams, without headers and padding, modulo 2^64: `bytesReceived` of the
+                               W3C's statistics */
     uint64_t ends_at;     /**< of CPAY_STREAM_LEAVING: the time, in ticks of your clock; in other stages 0 */
     uint64_t round_trip;  /**< with has_round_trip: measured round-trip time, in ticks of your clock; else 0 */
     uint64_t numbers_requested;   /**< missing packets that the session requested, each request counted, modulo 2^64 */

@@ -215,7 +215,7 @@ def units_under_loss():
 LAYERS = (
     (("library for C", "c/handle"), ("packets and frames, in Rattle", "core"), ("theorems on whole runs", "server_runs session_runs/forward_runs datagram_runs/buffer_runs"),
      ("tests", "codec_tests run_tests/datagram_tests"), ("a program", "vectors/lines")),
-    (("all streams of a port", "session/session_requests session_formats"),),
+    (("all streams of a port", "session session_stream/session_requests session_formats"),),
     (("receiving", "receiver datagrams jitter/numbers keyframes references/buffer contiguity metadata/queue index"),
      ("feedback", "feedback feedback_requests feedback_transport/feedback_wait feedback_congestion feedback_ccfb"),
      ("sending, and what viewers see", "payloader sending sending_red/sending_history sending_forward/feedback_freezes")),

@@ -353,6 +353,7 @@ static void requests(void) {
         CHECK(stream.payload_type == event.payload_type && stream.ssrc == 1 && stream.stage == CPAY_STREAM_DRAINING);
         CHECK(stream.numbers_requested == (ended == 0 ? 6u : 0u) && stream.keyframes_requested == (ended == 0 ? 0u : 1u));
         CHECK(stream.taken == (ended == 0 ? 3u : 2u) && stream.counts.received == stream.taken && stream.counts.held == 0);
+        CHECK(stream.bytes == (ended == 0 ? 3u : 2 * sizeof delta));
         CHECK(stream.counts.has_ssrc && stream.counts.ssrc == 1 && !stream.counts.waiting);
         CHECK(stream.counts.units == (ended == 0 ? 3u : 2u) && stream.why == CPAY_ENDED_BY_CALL);
     }

@@ -3,6 +3,7 @@
 //! Sessions: all streams of one port. A session finds the stream of each datagram, announces when streams begin and end,
 //! returns the units of all streams, requests what they miss, and reports on them.
 
+mod arrival;
 mod association;
 mod changes;
 #[doc(hidden)]

@@ -1,7 +1,7 @@
 """Where the modules of the proved crates go in the one crate of plain Rust."""
 
 # The crates of the library, each after the crates that it uses.
-LIBRARY = ["base", "audio", "vp8", "vp9", "av1", "red", "rtp", "sending_red", "rtcp", "feedback_congestion", "sending_history", "sending_forward", "syntax", "vpx", "descriptor", "media", "keyframes", "feedback_requests", "feedback", "feedback_transport", "feedback_ccfb", "feedback_wait", "feedback_freezes", "layers", "index", "queue", "references", "codec", "contiguity", "metadata", "buffer", "numbers", "jitter", "datagrams", "receiver", "session_formats", "session_requests", "session", "sending",
+LIBRARY = ["base", "audio", "vp8", "vp9", "av1", "red", "rtp", "sending_red", "rtcp", "feedback_congestion", "sending_history", "sending_forward", "syntax", "vpx", "descriptor", "media", "keyframes", "feedback_requests", "feedback", "feedback_transport", "feedback_ccfb", "feedback_wait", "feedback_freezes", "layers", "index", "queue", "references", "codec", "contiguity", "metadata", "buffer", "numbers", "jitter", "datagrams", "receiver", "session_formats", "session_requests", "session_stream", "session", "sending",
            "payloader", "buffer_runs", "datagram_runs", "forward_runs", "session_runs", "server_runs"]
 # The library for C.
 NOT_HERE = {"handle", "c"}
@@ -14,7 +14,8 @@ PLACES = {"index": "index", "metadata": "metadata", "queue": "queue", "syntax": 
 HOMES = {"numbers": {"noted_times": "jitter", "numbers": "jitter", "seen_times": "receiver", "statistics": "receiver", "windows": "receiver"},
          "datagrams": {"choice": "receiver", "kinds": "receiver", "parsed": "receiver"},
          "session_formats": {"checks": "session", "formats": "session", "names": "session", "sort": "session"},
-         "session_requests": {"late": "session", "named": "session", "requests": "session", "transports": "session"}}
+         "session_requests": {"late": "session", "named": "session", "requests": "session", "transports": "session"},
+         "session_stream": {"arrival": "session", "changes": "session", "dues": "session", "events": "session", "pairs": "session", "renegotiation": "session", "reports": "session", "stream": "session", "telephone": "session", "waking": "session"}}
 # Names of lower crates that are public for the crates above alone. In the one crate no user sees them.
 WITHIN_CRATE = {
     ("metadata", "known.rt"): "are_plain drop_rare is_plain last_sender_info marker number plain_meta received seq_no take time values",
@@ -33,6 +34,16 @@ WITHIN_CRATE = {
     ("session_requests", "named.rt"): "NamedReceiver begin finish inner pop_unit receive report set_retransmission set_wait_limits",
     ("session_requests", "late.rt"): "follow late_for limit_by",
     ("session_requests", "transports.rt"): "note reporter_for restart take_due time_of transport_deadline",
+    ("session_stream", "arrival.rt"): "arrival_of feed_one",
+    ("session_stream", "changes.rt"): "continues leave_behind",
+    ("session_stream", "dues.rt"): "due_in",
+    ("session_stream", "events.rt"): "report_event transport_event with_unit",
+    ("session_stream", "pairs.rt"): "pair remove_pair with_pair",
+    ("session_stream", "renegotiation.rt"): "leave_formats",
+    ("session_stream", "reports.rt"): "note_packet peek_report report start_fraction",
+    ("session_stream", "stream.rt"): "Step StreamState Turn begin earlier info is_former is_left_behind is_no_memory is_nothing is_on_probation is_playing leave_if request_keyframe step take wait_if",
+    ("session_stream", "telephone.rt"): "Noted TelephonePacket TelephoneQueue dropped is_empty none note settle take",
+    ("session_stream", "waking.rt"): "Waking except find forget grow holds step_due step_excepted unknown",
 }
 # Modules with another name in the one crate.
 RENAMED_MODULES = {("rtp", "rtp"): "packet", ("jitter", "jitter"): "jitter_buffer", ("session", "session"): "sessions",

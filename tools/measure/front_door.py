@@ -2,7 +2,7 @@
 """Prints what a datagram takes in Rust and in C, in a receiver and in a session: instructions by callgrind, and times.
 
   tools/measure/front_door.py             prints the two tables of docs/use/PERFORMANCE.md, and a line about the recorder
-  tools/measure/front_door.py --wanted    the same, with what issue 64 wanted beside each figure
+  tools/measure/front_door.py --wanted    the same, with the figure that was aimed at beside each
   tools/measure/front_door.py --counts    the table of instructions alone
 
 In Rust `receive` and `pop_unit`, or `receive` and `poll_into`; in C `cpay_receiver_receive` and `cpay_receiver_pop`, or
@@ -31,7 +31,7 @@ STREAMS = {1: 2_048, 64: 32, 1_000: 3}
 # The kinds of tools/speed/src/bin/hostile.rs, each with how many datagrams its two runs have: whole frames.
 GAP, FRAMES = ("gap", 1_024, (40, 80)), ("frames", 1_000, (1_000, 2_000))
 SENDERS, PACKETS, SIZE = 1_024, 102_400, 120
-# What issue 64 wanted, in Rust and in C: instructions, then nanoseconds.
+# What was aimed at, in Rust and in C: instructions, then nanoseconds.
 WANTED = {
     "receiver": (1_400, 1_700), "streams 1": (1_900, 2_300), "streams 1000": (None, 2_400), "batch": (2_600, 3_000),
     "call": (2_600, 3_000), "ns streams": (1_000, 1_500), "ns gap": (600, None), "ns frames": (500, None),

@@ -3,7 +3,7 @@ use Rattle.std.specs.Prelude.{◌≡◌, ℕ, ◌-◌, List, ◌++◌, length, r
 use Rattle.std.specs.List.{position}
 use Rattle.codec_payload_handle.specs.declared.object.PortSession.{PortSession}
 use Rattle.codec_payload_session.specs.Ports.{names_among}
-use Rattle.codec_payload_session.specs.Streams.{is_of}
+use Rattle.codec_payload_session_stream.specs.Streams.{is_of}
 use Rattle.codec_payload_session_formats.specs.declared.names.StreamNameIds.{StreamNameIds}
 use Rattle.codec_payload_session_formats.specs.declared.names.StreamNames.{StreamNames}
 use Rattle.codec_payload_c.specs.Ids.{id_given}

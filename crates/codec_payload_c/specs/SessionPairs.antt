@@ -1,7 +1,8 @@
 -- Pairs of SSRCs that become known while a session runs.
 use Rattle.std.specs.Prelude.{◌≡◌, ◌⊎◌, ℕ, List}
 use Rattle.codec_payload_handle.specs.declared.object.PortSession.{PortSession}
-use Rattle.codec_payload_session.specs.Pairs.{Pairs, with_pair, without_pair}
+use Rattle.codec_payload_session.specs.Pairs.{Pairs}
+use Rattle.codec_payload_session_stream.specs.Pairs.{with_pair, without_pair}
 use Rattle.codec_payload_session.specs.Ports.{Session}
 use Rattle.codec_payload_session_formats.specs.declared.formats.SsrcPair.{SsrcPair}
 

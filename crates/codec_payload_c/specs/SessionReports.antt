@@ -5,9 +5,9 @@ use Rattle.codec_payload_handle.specs.declared.object.PortSession.{PortSession}
 use Rattle.codec_payload_rtcp.specs.declared.items.ReportBlock.{ReportBlock}
 use Rattle.codec_payload_session.specs.Arrivals.{Port}
 use Rattle.codec_payload_session.specs.Ports.{ReportsIf}
-use Rattle.codec_payload_session.specs.Reports.{block_among, clock_among}
-use Rattle.codec_payload_session.specs.Streams.{is_of}
-use Rattle.codec_payload_session.specs.declared.reports.SenderClock.{SenderClock}
+use Rattle.codec_payload_session_stream.specs.Reports.{block_among, clock_among}
+use Rattle.codec_payload_session_stream.specs.Streams.{is_of}
+use Rattle.codec_payload_session_stream.specs.declared.reports.SenderClock.{SenderClock}
 use Rattle.codec_payload_c.specs.declared.session_reports.ReportBlockInfo.{ReportBlockInfo}
 use Rattle.codec_payload_c.specs.declared.session_reports.SenderClockInfo.{SenderClockInfo}
 

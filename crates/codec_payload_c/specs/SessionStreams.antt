@@ -7,11 +7,11 @@ use Rattle.codec_payload_jitter.specs.Missing.{missing_numbers}
 use Rattle.codec_payload_jitter.specs.declared.waiting.WaitLimits.{WaitLimits}
 use Rattle.codec_payload_session.specs.Ports.{receiver_among, taken_in, waits_of}
 use Rattle.codec_payload_session_requests.specs.Requests.{request_counts_of, round_trip_of}
-use Rattle.codec_payload_session.specs.Streams.{is_of}
-use Rattle.codec_payload_session.specs.declared.stream.Stage.{Stage}
-use Rattle.codec_payload_session.specs.declared.stream.Stage.TheVariants as stages
-use Rattle.codec_payload_session.specs.declared.stream.StreamInfo.{StreamInfo}
-use Rattle.codec_payload_session.specs.declared.stream.StreamState.{StreamState}
+use Rattle.codec_payload_session_stream.specs.Streams.{is_of}
+use Rattle.codec_payload_session_stream.specs.declared.stream.Stage.{Stage}
+use Rattle.codec_payload_session_stream.specs.declared.stream.Stage.TheVariants as stages
+use Rattle.codec_payload_session_stream.specs.declared.stream.StreamInfo.{StreamInfo}
+use Rattle.codec_payload_session_stream.specs.declared.stream.StreamState.{StreamState}
 use Rattle.codec_payload_receiver.specs.Sessions.{Session as Receiver}
 use Rattle.codec_payload_c.specs.Sessions.{ending_number}
 use Rattle.codec_payload_c.specs.Inspect.{given_if}
@@ -60,6 +60,7 @@ end_time (stages.Draining why) = 0
 -- the description of a stream
 pub record TellsStream (s : StreamState) (i : SessionStream) : Type 0 where
   pub taken : i.taken ≡ s.taken
+  pub bytes : i.bytes ≡ s.bytes
   pub ends_at : i.ends_at ≡ end_time s.stage
   pub ssrc_is : i.ssrc ≡ s.ssrc
   pub stage : i.stage ≡ stage_number s.stage
@@ -74,6 +75,7 @@ pub record TellsStream (s : StreamState) (i : SessionStream) : Type 0 where
 -- the same from what a session says of a stream
 pub record DescribesStream (info : StreamInfo) (counts : ReceiverCountsInfo) (i : SessionStream) : Type 0 where
   pub taken : i.taken ≡ info.taken
+  pub bytes : i.bytes ≡ info.bytes
   pub ends_at : i.ends_at ≡ end_time info.stage
   pub ssrc_is : i.ssrc ≡ info.ssrc
   pub stage : i.stage ≡ stage_number info.stage

@@ -5,7 +5,7 @@ ghost use Rattle.std_alloc.specs.Vec.{vec_ptr};
 ghost use Rattle.codec_payload_core.specs.Faults.{fault_number};
 ghost use Rattle.codec_payload_session.specs.Idle.{next_of};
 ghost use Rattle.codec_payload_session.specs.Ports.{ends_all, ends_of, restarts_transport};
-ghost use Rattle.codec_payload_session.specs.Units.{HasUnit, with_unit};
+ghost use Rattle.codec_payload_session_stream.specs.Units.{HasUnit, with_unit};
 ghost use Rattle.codec_payload_c.specs.SessionFormats.{IsPortSessionOf, MakesSession, is_in_range};
 ghost use Rattle.codec_payload_c.specs.Sessions.{HandsOver, PollsEvent, ReceivesDatagram, TakesDatagram, TellsArrival, TellsJudgedBy, TellsOfStream, TellsTaken, arrived_as, ending_number, event_with, packet_event, telephone_unit};
 ghost use Rattle.codec_payload_c.specs.StreamReceivers.{TellsNumber};
@@ -24,7 +24,7 @@ use codec_payload_handle::unit::{Unit, describe_popped, no_unit};
 use codec_payload_jitter::outcome::Outcome;
 use codec_payload_receiver::receiver::ReceiveError;
 use codec_payload_session::session::{Arrival as Arrived, Event as SessionEvent};
-use codec_payload_session::stream::Ending;
+use codec_payload_session_stream::stream::Ending;
 use std::alloc::{AllocError, Global};
 
 /// What a session did with a datagram.

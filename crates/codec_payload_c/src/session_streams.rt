@@ -12,7 +12,7 @@ use crate::session::number_of;
 use codec_payload_handle::handle::Handle;
 use codec_payload_handle::object::{Object, PortSession};
 use codec_payload_handle::status;
-use codec_payload_session::stream::{Stage, StreamInfo};
+use codec_payload_session_stream::stream::{Stage, StreamInfo};
 use std::alloc::Global;
 
 /// Counts of datagrams by result, each modulo 2^64.
@@ -39,6 +39,8 @@ pub struct SessionCountsInfo {
 pub struct SessionStream {
     /// How many datagrams it received, modulo 2^64.
     pub taken: u64,
+    /// How many bytes of payload these had, without headers and padding, modulo 2^64.
+    pub bytes: u64,
     /// When it ends, if it is leaving; 0 in other stages.
     pub ends_at: u64,
     /// The measured round-trip time in ticks, once a request of the session was answered; else 0.
@@ -115,6 +117,7 @@ fn described(info: &StreamInfo, counts: ReceiverCountsInfo) -> SessionStream
 {
     SessionStream {
         taken: info.taken,
+        bytes: info.bytes,
         ends_at: end_of(info.stage),
         round_trip: info.round_trip.unwrap_or(0),
         numbers_requested: info.requests.numbers,

@@ -10,8 +10,8 @@ use Rattle.codec_payload_handle.specs.Popping.{Answer}
 use Rattle.codec_payload_handle.specs.Units.{TellsUnit, TellsValues}
 use Rattle.codec_payload_handle.specs.declared.extension_values.ExtensionValues.{ExtensionValues as CValues}
 use Rattle.codec_payload_handle.specs.declared.unit.Unit.{Unit as CUnit}
-use Rattle.codec_payload_session.specs.Units.{Event}
-use Rattle.codec_payload_session.specs.declared.session.Event.TheVariants as events
+use Rattle.codec_payload_session_stream.specs.Units.{Event}
+use Rattle.codec_payload_session_stream.specs.declared.events.Event.TheVariants as events
 use Rattle.codec_payload_receiver.specs.declared.pops.Popped.{Popped as Pop}
 use Rattle.codec_payload_receiver.specs.declared.pops.Popped.TheVariants as popped
 

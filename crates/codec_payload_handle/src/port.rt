@@ -2,7 +2,7 @@
 
 ghost use Rattle.std.specs.Prelude.{◌≡◌, ◌<◌, [], None, Some, length};
 ghost use Rattle.codec_payload_session.specs.Polls.{Polls};
-ghost use Rattle.codec_payload_session.specs.Units.{HasUnit, event_to};
+ghost use Rattle.codec_payload_session_stream.specs.Units.{HasUnit, event_to};
 
 use crate::object::PortSession;
 use crate::slot::{MOST_BYTES, MOST_PACKETS, TakenPackets};

@@ -4,7 +4,7 @@ use Rattle.std.specs.Prelude.{OnOk, is_err}
 use Rattle.std.specs.declared.alloc.AllocError.{AllocError}
 use Rattle.codec_payload_sending_history.specs.declared.original.OriginalStream.{OriginalStream}
 use Rattle.codec_payload_session.specs.Accepting.{Accepts, time_for}
-use Rattle.codec_payload_session.specs.declared.session.Arrival.{Arrival}
+use Rattle.codec_payload_session_stream.specs.declared.arrival.Arrival.{Arrival}
 use Rattle.codec_payload_session_runs.specs.declared.run.StepAnswer.{StepAnswer}
 use Rattle.codec_payload_session_runs.specs.declared.run.StepAnswer.TheVariants as answers
 use Rattle.codec_payload_forward_runs.specs.ForwardRuns.{Hops}

@@ -11,7 +11,7 @@ use Rattle.codec_payload_sending_history.specs.declared.original.OriginalStream.
 use Rattle.codec_payload_sending_history.specs.declared.retransmission.RetransmissionStream.{RetransmissionStream}
 use Rattle.codec_payload_session.specs.Ports.{Session, new_session}
 use Rattle.codec_payload_session_formats.specs.declared.formats.SessionSettings.{SessionSettings}
-use Rattle.codec_payload_session.specs.declared.session.Arrival.TheVariants as arrivals
+use Rattle.codec_payload_session_stream.specs.declared.arrival.Arrival.TheVariants as arrivals
 use Rattle.codec_payload_datagram_runs.specs.Releases.{AllComeFirst, received_steps}
 use Rattle.codec_payload_datagram_runs.specs.WireRunExample.{at, frame_at, opus_sender}
 use Rattle.codec_payload_datagram_runs.specs.declared.run.SentSample.{SentSample}

@@ -13,8 +13,8 @@ use Rattle.codec_payload_sending_history.specs.declared.original.OriginalStream.
 use Rattle.codec_payload_sending_history.specs.declared.retransmission.RetransmissionStream.{RetransmissionStream}
 use Rattle.codec_payload_session.specs.Accepting.{Accepts, time_for}
 use Rattle.codec_payload_session.specs.Ports.{Session}
-use Rattle.codec_payload_session.specs.declared.session.Arrival.{Arrival}
-use Rattle.codec_payload_session.specs.declared.session.Arrival.TheVariants as arrivals
+use Rattle.codec_payload_session_stream.specs.declared.arrival.Arrival.{Arrival}
+use Rattle.codec_payload_session_stream.specs.declared.arrival.Arrival.TheVariants as arrivals
 use Rattle.codec_payload_forward_runs.specs.ForwardRuns.{Comes, DoesForwardStep, ForwardStopsAt, Hops, begins_forwarding, hops_of, packet_in}
 use Rattle.codec_payload_forward_runs.specs.declared.run.ForwardStep.{ForwardStep}
 use Rattle.codec_payload_forward_runs.specs.declared.run.ForwardStep.TheVariants as plain

@@ -8,7 +8,7 @@ ghost use Rattle.codec_payload_receiver.specs.Sessions.{Session as Receiver};
 ghost use Rattle.codec_payload_rtp.specs.RtpPackets.{IsRtp, Packet};
 ghost use Rattle.codec_payload_sending.specs.Senders.{Sending};
 ghost use Rattle.codec_payload_session.specs.Accepting.{Accepts, time_for};
-ghost use Rattle.codec_payload_session.specs.declared.session.Arrival.{Arrival as TheArrival};
+ghost use Rattle.codec_payload_session_stream.specs.declared.arrival.Arrival.{Arrival as TheArrival};
 ghost use Rattle.codec_payload_session_runs.specs.declared.run.StepAnswer.TheVariants.{Received};
 ghost use Rattle.codec_payload_forward_runs.specs.ForwardRuns.{Comes, hops_of, packet_in};
 ghost use Rattle.codec_payload_server_runs.specs.ServeReleases.{KeepsPromisesServed, ReleasesServed, ServesAsSession, ServesPackets};

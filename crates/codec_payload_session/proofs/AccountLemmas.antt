@@ -16,32 +16,35 @@ use Rattle.codec_payload_rtcp.specs.RtcpPackets.{Packet}
 use Rattle.codec_payload_rtcp.specs.RtcpReading.{compound_at}
 use Rattle.codec_payload_rtcp.specs.declared.items.ReportBlock.{ReportBlock}
 use Rattle.codec_payload_rtcp.specs.declared.packet.RtcpError.{RtcpError}
-use Rattle.codec_payload_session.proofs.QuietLemmas.{quiet_length}
-use Rattle.codec_payload_session.proofs.ReportLemmas.{noted_length}
-use Rattle.codec_payload_session.specs.Arrivals.{Arrives, BeginsIf, BeginsOrFeeds, BeginsWith, Feeds, FeedsIf, Port, StaysEmpty, TakesIn, TakesInAs, added, arrival_of, has_place, left_if, left_where, on_probation, taken_of, without, TakesMedia}
+use Rattle.codec_payload_session_stream.proofs.QuietLemmas.{quiet_length}
+use Rattle.codec_payload_session_stream.proofs.ReportLemmas.{noted_length}
+use Rattle.codec_payload_session_stream.specs.Arrivals.{Arrives, arrival_of}
+use Rattle.codec_payload_session.specs.Arrivals.{BeginsIf, BeginsOrFeeds, BeginsWith, Feeds, FeedsIf, Port, StaysEmpty, TakesIn, TakesInAs, added, has_place, left_if, left_where, on_probation, taken_of, without, TakesMedia}
 use Rattle.codec_payload_session.specs.Ports.{IsPort, ReportsIf, counted, counted_if, taken_in}
-use Rattle.codec_payload_session.specs.Reports.{noted_at, noted_in, reported_by}
+use Rattle.codec_payload_session_stream.specs.Reports.{noted_at, noted_in, reported_by}
 use Rattle.codec_payload_session.proofs.ChangeLemmas.{length_continued, taken_continued}
-use Rattle.codec_payload_session.specs.Changes.{continues}
+use Rattle.codec_payload_session_stream.specs.Changes.{continues}
 use Rattle.codec_payload_session_formats.specs.Sorting.{Sorted, sorted_at}
 use Rattle.codec_payload_receiver.specs.Sessions.{Session as Receiver}
 use Rattle.codec_payload_session_requests.specs.Late.{limit_by}
 use Rattle.codec_payload_session_formats.specs.Names.{names_after}
+use Rattle.codec_payload_rtp.specs.RtpReading.{rtp_at}
 use Rattle.codec_payload_session_requests.specs.Requests.{Asking, heard_by, number_at, wait_by}
-use Rattle.codec_payload_session.specs.Streams.{Drains, Follows, Plays, RequestsBy, RestsBy, Steps, StepsBy, Takes, end_of, heard_unless, is_accepted, is_no_memory, is_of, is_probation, late_followed, late_noted, left_when, received, waiting_for, waiting_if, waiting_when, waiting_where}
-use Rattle.codec_payload_session.specs.Turns.{AreQuiet, TakesTurn, ended_after, kept_after}
+use Rattle.codec_payload_session_stream.specs.Streams.{Drains, Follows, Plays, RequestsBy, RestsBy, Steps, StepsBy, Takes, end_of, heard_unless, is_accepted, is_no_memory, is_of, is_probation, late_followed, late_noted, left_when, payload_size, received, waiting_for, waiting_if, waiting_when, waiting_where}
+use Rattle.codec_payload_session_stream.specs.Turns.{AreQuiet}
+use Rattle.codec_payload_session.specs.Turns.{TakesTurn, ended_after, kept_after}
 use Rattle.codec_payload_session_formats.specs.declared.formats.Format.{Format}
 use Rattle.codec_payload_session_formats.specs.declared.formats.SessionSettings.{SessionSettings}
-use Rattle.codec_payload_session.specs.declared.session.Arrival.{Arrival}
-use Rattle.codec_payload_session.specs.declared.session.Arrival.TheVariants as arrivals
+use Rattle.codec_payload_session_stream.specs.declared.arrival.Arrival.{Arrival}
+use Rattle.codec_payload_session_stream.specs.declared.arrival.Arrival.TheVariants as arrivals
 use Rattle.codec_payload_session.specs.declared.session.ArrivalCounts.{ArrivalCounts}
-use Rattle.codec_payload_session.specs.Units.{Event, Step}
+use Rattle.codec_payload_session_stream.specs.Units.{Event, Step}
 use Rattle.codec_payload_session_formats.specs.Sorting as sorted
-use Rattle.codec_payload_session.specs.declared.stream.Ending.{Ending}
-use Rattle.codec_payload_session.specs.declared.stream.Stage.{Stage}
-use Rattle.codec_payload_session.specs.declared.stream.Stage.TheVariants as stages
-use Rattle.codec_payload_session.specs.declared.stream.Step.TheVariants as steps
-use Rattle.codec_payload_session.specs.declared.stream.StreamState.{StreamState}
+use Rattle.codec_payload_session_stream.specs.declared.stream.Ending.{Ending}
+use Rattle.codec_payload_session_stream.specs.declared.stream.Stage.{Stage}
+use Rattle.codec_payload_session_stream.specs.declared.stream.Stage.TheVariants as stages
+use Rattle.codec_payload_session_stream.specs.declared.stream.Step.TheVariants as steps
+use Rattle.codec_payload_session_stream.specs.declared.stream.StreamState.{StreamState}
 
 -- ---- the datagrams that the streams took, and the number of streams
 
@@ -115,7 +118,7 @@ takes_taken now probation bytes s told t got = ap (λ (x : StreamState). x.taken
     same : (late_followed (is_ok told) now.0 bytes (received now.0 bytes (is_accepted told) got.0 s)).taken ≡ s.taken
     same = late_taken (is_ok told) now.0 bytes (received now.0 bytes (is_accepted told) got.0 s) ∙ received_taken now.0 bytes (is_accepted told) got.0 s
 
-    by_test : (b : Bool) → (heard_unless b now.0 probation (is_accepted told) (late_followed (is_ok told) now.0 bytes (received now.0 bytes (is_accepted told) got.0 s))).taken ≡ taken_unless b s.taken
+    by_test : (b : Bool) → (heard_unless b now.0 probation (is_accepted told) (payload_size (rtp_at bytes)) (late_followed (is_ok told) now.0 bytes (received now.0 bytes (is_accepted told) got.0 s))).taken ≡ taken_unless b s.taken
     by_test true = same
     by_test false = ap next same
 

@@ -10,21 +10,22 @@ use Rattle.codec_payload_rtcp.specs.RtcpReading.{compound_at}
 use Rattle.codec_payload_session.specs.Arrivals.{Port, TakesIn, TakesInAs}
 use Rattle.codec_payload_session.specs.Associations.{AddsPair, AssociatesBy, TakesInBy, TakesInPaired, is_unassociated, only_ssrc, pair_at, pair_of, unpaired_at, unpaired_by, unpaired_rtp}
 use Rattle.codec_payload_session_formats.specs.Formats.{role_of, stream_of}
-use Rattle.codec_payload_session.specs.Pairs.{Pairs, with_pair}
+use Rattle.codec_payload_session.specs.Pairs.{Pairs}
+use Rattle.codec_payload_session_stream.specs.Pairs.{with_pair}
 use Rattle.codec_payload_session.specs.Ports.{IsPort, Session, counted_if}
 use Rattle.codec_payload_session_requests.specs.Requests.{original_number}
 use Rattle.codec_payload_session_formats.specs.Sorting.{Sorted, sorted_at, sorted_by, sorted_retransmission, sorted_rtcp, sorted_rtp}
-use Rattle.codec_payload_session.specs.Telephone.{Queue, QueuesIf, is_without_media, telephone_at, telephone_of}
+use Rattle.codec_payload_session_stream.specs.Telephone.{Queue, QueuesIf, is_without_media, telephone_at, telephone_of}
 use Rattle.codec_payload_session.specs.declared.association.Unpaired.{Unpaired}
 use Rattle.codec_payload_session_formats.specs.declared.formats.Role.{Role}
 use Rattle.codec_payload_session_formats.specs.declared.formats.Role.TheVariants as roles
 use Rattle.codec_payload_session_formats.specs.declared.formats.SessionSettings.{SessionSettings}
 use Rattle.codec_payload_session_formats.specs.declared.formats.SsrcPair.{SsrcPair}
-use Rattle.codec_payload_session.specs.declared.session.Arrival.{Arrival}
-use Rattle.codec_payload_session.specs.declared.session.Arrival.TheVariants as arrivals
+use Rattle.codec_payload_session_stream.specs.declared.arrival.Arrival.{Arrival}
+use Rattle.codec_payload_session_stream.specs.declared.arrival.Arrival.TheVariants as arrivals
 use Rattle.codec_payload_session.specs.declared.session.ArrivalCounts.{ArrivalCounts}
 use Rattle.codec_payload_session_formats.specs.Sorting as sorted
-use Rattle.codec_payload_session.specs.declared.stream.StreamState.{StreamState}
+use Rattle.codec_payload_session_stream.specs.declared.stream.StreamState.{StreamState}
 use Rattle.codec_payload_session.proofs.AccountLemmas.{takes_in_keeps}
 use Rattle.codec_payload_session.proofs.PairLemmas.{paired_keeps}
 

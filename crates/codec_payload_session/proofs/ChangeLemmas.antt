@@ -1,11 +1,11 @@
 -- Streams that their sender left.
 use Rattle.std.proofs.Common.{◌≡◌, ◌∙◌, ◌||◌, ℕ, suc, List, [], ◌∷◌, length, map, Bool, true, false, ap, refl, arith}
-use Rattle.codec_payload_session.specs.Changes.{any_left_behind, continued, is_left_behind, left_behind}
+use Rattle.codec_payload_session_stream.specs.Changes.{any_left_behind, continued, is_left_behind, left_behind}
 use Rattle.codec_payload_session.specs.Ports.{taken_in}
-use Rattle.codec_payload_session.specs.Streams.{left_when}
+use Rattle.codec_payload_session_stream.specs.Streams.{left_when}
 use Rattle.codec_payload_session_formats.specs.declared.formats.Format.{Format}
-use Rattle.codec_payload_session.specs.declared.stream.Ending.TheVariants as endings
-use Rattle.codec_payload_session.specs.declared.stream.StreamState.{StreamState}
+use Rattle.codec_payload_session_stream.specs.declared.stream.Ending.TheVariants as endings
+use Rattle.codec_payload_session_stream.specs.declared.stream.StreamState.{StreamState}
 
 -- such a stream takes nothing
 taken_left_behind : (now wait ssrc : ℕ) (f : Format) (s : StreamState) → (left_behind now wait ssrc f s).taken ≡ s.taken

@@ -4,12 +4,12 @@ use Rattle.std.proofs.Math.Nat.{min-eq_left, min-le_right}
 use Rattle.codec_payload_base.specs.declared.wire.Ticks.{Ticks}
 use Rattle.codec_payload_rtcp.specs.RtcpPackets.{Packet}
 use Rattle.codec_payload_session.specs.Arrivals.{left_where}
-use Rattle.codec_payload_session.specs.Reports.{noted, noted_where}
-use Rattle.codec_payload_session.specs.Streams.{left_when, stage_left}
-use Rattle.codec_payload_session.specs.declared.stream.Ending.{Ending}
-use Rattle.codec_payload_session.specs.declared.stream.Stage.{Stage}
-use Rattle.codec_payload_session.specs.declared.stream.Stage.TheVariants as stages
-use Rattle.codec_payload_session.specs.declared.stream.StreamState.{StreamState}
+use Rattle.codec_payload_session_stream.specs.Reports.{noted, noted_where}
+use Rattle.codec_payload_session_stream.specs.Streams.{left_when, stage_left}
+use Rattle.codec_payload_session_stream.specs.declared.stream.Ending.{Ending}
+use Rattle.codec_payload_session_stream.specs.declared.stream.Stage.{Stage}
+use Rattle.codec_payload_session_stream.specs.declared.stream.Stage.TheVariants as stages
+use Rattle.codec_payload_session_stream.specs.declared.stream.StreamState.{StreamState}
 
 -- who leaves twice at one time leaves once
 stage_twice : (why : Ending) (at : ℕ) (x : Stage) → stage_left why at (stage_left why at x) ≡ stage_left why at x

@@ -19,27 +19,29 @@ use Rattle.codec_payload_receiver.specs.declared.pops.Popped.{Popped}
 use Rattle.codec_payload_receiver.specs.declared.pops.Popped.TheVariants as popped
 use Rattle.codec_payload_session.specs.Arrivals.{Port}
 use Rattle.codec_payload_session.specs.Idle.{IsIdle, IsNoEvent, held_in, next_of}
-use Rattle.codec_payload_session.specs.Polls.{GoesOn, Polls, PollsAfter, SendsAfter, SendsReport, SendsTransport, TurnsOrReports, TurnsOrSends, report_event, transport_event}
+use Rattle.codec_payload_session.specs.Polls.{GoesOn, Polls, PollsAfter, SendsAfter, SendsReport, SendsTransport, TurnsOrReports, TurnsOrSends}
+use Rattle.codec_payload_session_stream.specs.Events.{report_event, transport_event}
 use Rattle.codec_payload_session.specs.Ports.{Session}
-use Rattle.codec_payload_session.specs.Quiet.{IsBefore, PopsNothing}
+use Rattle.codec_payload_session_stream.specs.Quiet.{IsBefore, PopsNothing}
 use Rattle.codec_payload_session.specs.Reporting.{ReportsBy, ReportsEach, ReportsIf, any_announced, deadline_if, is_report_due, is_time, report_deadline}
 use Rattle.codec_payload_session_requests.specs.Requests.{Asking, Asks, is_heard, refreshed, requests_due}
-use Rattle.codec_payload_session.specs.Streams.{Drains, Follows, Plays, Pops, RequestsBy, RestsBy, Steps, StepsBy, StreamState, due_by, due_in, due_of, earlier, end_by, end_of, is_probation, later as time_after, request_deadline, step_of, step_with, work_deadline}
-use Rattle.codec_payload_session.specs.Telephone.{Queue, due_before}
+use Rattle.codec_payload_session_stream.specs.Streams.{Drains, Follows, Plays, Pops, RequestsBy, RestsBy, Steps, StepsBy, StreamState, due_by, due_in, due_of, earlier, end_by, end_of, is_probation, later as time_after, request_deadline, step_of, step_with, work_deadline}
+use Rattle.codec_payload_session_stream.specs.Telephone.{Queue, due_before}
 use Rattle.codec_payload_session_requests.specs.Transports.{Sends, SendsBy, SendsFrom, transport_deadline}
-use Rattle.codec_payload_session.specs.Turns.{AreQuiet, TakesTurn, event_of}
+use Rattle.codec_payload_session_stream.specs.Turns.{AreQuiet, event_of}
+use Rattle.codec_payload_session.specs.Turns.{TakesTurn}
 use Rattle.codec_payload_session_formats.specs.declared.formats.FeedbackSettings.{FeedbackSettings}
 use Rattle.codec_payload_session_formats.specs.declared.formats.SessionSettings.{SessionSettings}
-use Rattle.codec_payload_session.specs.Units.{Event, Step}
-use Rattle.codec_payload_session.specs.declared.stream.Ending.{Ending}
-use Rattle.codec_payload_session.specs.declared.stream.Ending.TheVariants as endings
-use Rattle.codec_payload_session.specs.declared.stream.Stage.{Stage}
-use Rattle.codec_payload_session.specs.declared.stream.Stage.TheVariants as stages
-use Rattle.codec_payload_session.specs.declared.stream.Step.TheVariants as steps
-use Rattle.codec_payload_session.specs.declared.telephone.TelephonePacket.{TelephonePacket}
-use Rattle.codec_payload_session.proofs.CalmLemmas.{due_later, updated_none}
-use Rattle.codec_payload_session.proofs.PopAgainLemmas.{pops_same}
-use Rattle.codec_payload_session.proofs.SkipLemmas.{drops_few, earlier_both, once_few, receiver_rests, same_number, told_none}
+use Rattle.codec_payload_session_stream.specs.Units.{Event, Step}
+use Rattle.codec_payload_session_stream.specs.declared.stream.Ending.{Ending}
+use Rattle.codec_payload_session_stream.specs.declared.stream.Ending.TheVariants as endings
+use Rattle.codec_payload_session_stream.specs.declared.stream.Stage.{Stage}
+use Rattle.codec_payload_session_stream.specs.declared.stream.Stage.TheVariants as stages
+use Rattle.codec_payload_session_stream.specs.declared.stream.Step.TheVariants as steps
+use Rattle.codec_payload_session_stream.specs.declared.telephone.TelephonePacket.{TelephonePacket}
+use Rattle.codec_payload_session_stream.proofs.CalmLemmas.{due_later, updated_none}
+use Rattle.codec_payload_session_stream.proofs.PopAgainLemmas.{pops_same}
+use Rattle.codec_payload_session_stream.proofs.SkipLemmas.{drops_few, earlier_both, once_few, receiver_rests, same_number, told_none}
 
 -- ---- the receiver
 

@@ -19,25 +19,25 @@ use Rattle.codec_payload_session.specs.Idle.{next_of}
 use Rattle.codec_payload_session.specs.Keyframes.{KeyframeLeaves, LeavesFrom, answer_among, answer_of, asked_among, asked_with, asks_keyframe, may_ask}
 use Rattle.codec_payload_session.specs.Polls.{Polls}
 use Rattle.codec_payload_session.specs.Ports.{IsPort, Session}
-use Rattle.codec_payload_session.specs.Quiet.{IsBefore}
+use Rattle.codec_payload_session_stream.specs.Quiet.{IsBefore}
 use Rattle.codec_payload_session.specs.Reporting.{report_deadline}
 use Rattle.codec_payload_session_requests.specs.Requests.{Asking, Asks, answer_by, answer_when, asked_by, asked_when, is_heard, refreshed, wants_keyframe}
-use Rattle.codec_payload_session.specs.Streams.{Drains, Follows, Pops, RequestsBy, RestsBy, Steps, StepsBy, StreamState, answer_for, answer_unless, asked_for, asked_unless, due_by, due_in, due_of, earlier, end_of, is_ending, is_probation, later as time_after, request_deadline, work_deadline}
-use Rattle.codec_payload_session.specs.Telephone.{Queue, due_before}
+use Rattle.codec_payload_session_stream.specs.Streams.{Drains, Follows, Pops, RequestsBy, RestsBy, Steps, StepsBy, StreamState, answer_for, answer_unless, asked_for, asked_unless, due_by, due_in, due_of, earlier, end_of, is_ending, is_probation, later as time_after, request_deadline, work_deadline}
+use Rattle.codec_payload_session_stream.specs.Telephone.{Queue, due_before}
 use Rattle.codec_payload_session_requests.specs.Transports.{transport_deadline}
-use Rattle.codec_payload_session.specs.Turns.{AreQuiet}
-use Rattle.codec_payload_session.specs.Units.{Event}
+use Rattle.codec_payload_session_stream.specs.Turns.{AreQuiet}
+use Rattle.codec_payload_session_stream.specs.Units.{Event}
 use Rattle.codec_payload_session_formats.specs.declared.formats.SessionSettings.{SessionSettings}
 use Rattle.codec_payload_session_requests.specs.declared.requests.KeyframeAnswer.TheVariants as answers
 use Rattle.codec_payload_session.specs.declared.session.ArrivalCounts.{ArrivalCounts}
-use Rattle.codec_payload_session.specs.declared.stream.Ending.{Ending}
-use Rattle.codec_payload_session.specs.declared.stream.Stage.{Stage}
-use Rattle.codec_payload_session.specs.declared.stream.Stage.TheVariants as stages
-use Rattle.codec_payload_session.specs.declared.stream.Step.TheVariants as steps
+use Rattle.codec_payload_session_stream.specs.declared.stream.Ending.{Ending}
+use Rattle.codec_payload_session_stream.specs.declared.stream.Stage.{Stage}
+use Rattle.codec_payload_session_stream.specs.declared.stream.Stage.TheVariants as stages
+use Rattle.codec_payload_session_stream.specs.declared.stream.Step.TheVariants as steps
 use Rattle.codec_payload_session.proofs.AccountLemmas.{length_set, taken_set}
-use Rattle.codec_payload_session.proofs.DueLemmas.{earlier_both as requests_both}
+use Rattle.codec_payload_session_stream.proofs.DueLemmas.{earlier_both as requests_both}
 use Rattle.codec_payload_session.proofs.IdleLemmas.{Polled, not_come, polled_after, some_step}
-use Rattle.codec_payload_session.proofs.SkipLemmas.{earlier_both, told_none}
+use Rattle.codec_payload_session_stream.proofs.SkipLemmas.{earlier_both, told_none}
 
 -- ---- requests
 

@@ -19,16 +19,18 @@ use Rattle.codec_payload_receiver.specs.Sessions.{Session as Receiver}
 use Rattle.codec_payload_receiver.specs.declared.pops.Popped.{Popped}
 use Rattle.codec_payload_receiver.specs.declared.pops.Popped.TheVariants as popped
 use Rattle.codec_payload_session.specs.Arrivals.{Port}
-use Rattle.codec_payload_session.specs.Polls.{GoesOn, Polls, PollsAfter, SendsAfter, TurnsOrReports, report_event, transport_event}
+use Rattle.codec_payload_session.specs.Polls.{GoesOn, Polls, PollsAfter, SendsAfter, TurnsOrReports}
+use Rattle.codec_payload_session_stream.specs.Events.{report_event, transport_event}
 use Rattle.codec_payload_session.specs.Ports.{Session}
 use Rattle.codec_payload_session_requests.specs.Requests.{Asking}
-use Rattle.codec_payload_session.specs.Streams.{Follows, Pops, RequestsBy, RestsBy, StepsBy, StreamState, step_of}
-use Rattle.codec_payload_session.specs.Turns.{TakesTurn, event_of}
-use Rattle.codec_payload_session.specs.Units.{Event, HasPackets, HasUnit, Step}
-use Rattle.codec_payload_session.specs.declared.stream.Stage.{Stage}
-use Rattle.codec_payload_session.specs.declared.stream.Stage.TheVariants as stages
-use Rattle.codec_payload_session.specs.declared.stream.Step.TheVariants as steps
-use Rattle.codec_payload_session.specs.declared.telephone.TelephonePacket.{TelephonePacket}
+use Rattle.codec_payload_session_stream.specs.Streams.{Follows, Pops, RequestsBy, RestsBy, StepsBy, StreamState, step_of}
+use Rattle.codec_payload_session.specs.Turns.{TakesTurn}
+use Rattle.codec_payload_session_stream.specs.Turns.{event_of}
+use Rattle.codec_payload_session_stream.specs.Units.{Event, HasPackets, HasUnit, Step}
+use Rattle.codec_payload_session_stream.specs.declared.stream.Stage.{Stage}
+use Rattle.codec_payload_session_stream.specs.declared.stream.Stage.TheVariants as stages
+use Rattle.codec_payload_session_stream.specs.declared.stream.Step.TheVariants as steps
+use Rattle.codec_payload_session_stream.specs.declared.telephone.TelephonePacket.{TelephonePacket}
 
 -- ---- the buffer
 

@@ -1,12 +1,12 @@
 -- Streams that take the retransmissions of a pair.
 use Rattle.std.proofs.Common.{◌≡◌, ℕ, suc, ◌==◌, List, [], ◌∷◌, length, Bool, true, false, ap, refl, arith}
 use Rattle.codec_payload_session.specs.Arrivals.{Port}
-use Rattle.codec_payload_session.specs.Pairs.{paired_if, paired_when, paired_where}
+use Rattle.codec_payload_session_stream.specs.Pairs.{paired_if, paired_when, paired_where}
 use Rattle.codec_payload_session.specs.Ports.{IsPort, taken_in}
 use Rattle.codec_payload_session_formats.specs.declared.formats.SessionSettings.{SessionSettings}
 use Rattle.codec_payload_session_formats.specs.declared.formats.SsrcPair.{SsrcPair}
 use Rattle.codec_payload_session.specs.declared.session.ArrivalCounts.{ArrivalCounts}
-use Rattle.codec_payload_session.specs.declared.stream.StreamState.{StreamState}
+use Rattle.codec_payload_session_stream.specs.declared.stream.StreamState.{StreamState}
 
 -- a stream that gets its retransmissions takes nothing
 taken_paired_if : (ssrc : ℕ) (pairs : List SsrcPair) (s : StreamState) → (paired_if ssrc pairs s).taken ≡ s.taken

@@ -8,10 +8,10 @@ use Rattle.std.specs.List.{cons_option, filter_map}
 use Rattle.std.specs.declared.alloc.AllocError.{AllocError}
 use Rattle.codec_payload_rtcp.specs.declared.items.ReportBlock.{ReportBlock}
 use Rattle.codec_payload_session.specs.Arrivals.{Port}
-use Rattle.codec_payload_session.specs.Reports.{block_of}
-use Rattle.codec_payload_session.specs.Reporting.{IsReport, Reports, ReportsEach, ReportsIf, all_reported, blocks_of, bytes_if, bytes_of, due_after, due_if, due_streams, has_announced, is_chosen, is_due, is_first_chosen, is_first_due, is_new_round, is_report_due, is_reported, most_blocks, reported_if, room_after}
+use Rattle.codec_payload_session_stream.specs.Reports.{block_of, reported_if}
+use Rattle.codec_payload_session.specs.Reporting.{IsReport, Reports, ReportsEach, ReportsIf, all_reported, blocks_of, bytes_if, bytes_of, due_after, due_if, due_streams, has_announced, is_chosen, is_due, is_first_chosen, is_first_due, is_new_round, is_report_due, is_reported, most_blocks, room_after}
 use Rattle.codec_payload_session_formats.specs.declared.formats.FeedbackSettings.{FeedbackSettings}
-use Rattle.codec_payload_session.specs.declared.stream.StreamState.{StreamState}
+use Rattle.codec_payload_session_stream.specs.declared.stream.StreamState.{StreamState}
 
 -- ---- streams that are due
 

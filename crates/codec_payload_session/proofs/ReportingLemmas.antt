@@ -4,11 +4,12 @@ use Rattle.std.specs.Global.{Vec}
 use Rattle.std.specs.declared.alloc.AllocError.{AllocError}
 use Rattle.codec_payload_session.specs.Arrivals.{Port}
 use Rattle.codec_payload_session.specs.Ports.{IsPort, taken_in}
-use Rattle.codec_payload_session.specs.Reporting.{Reports, ReportsBy, ReportsEach, ReportsIf, all_reported, deadline_if, is_chosen, is_new_round, is_report_due, most_blocks, reported_if, room_after}
+use Rattle.codec_payload_session.specs.Reporting.{Reports, ReportsBy, ReportsEach, ReportsIf, all_reported, deadline_if, is_chosen, is_new_round, is_report_due, most_blocks, room_after}
+use Rattle.codec_payload_session_stream.specs.Reports.{reported_if}
 use Rattle.codec_payload_session_formats.specs.declared.formats.FeedbackSettings.{FeedbackSettings}
 use Rattle.codec_payload_session_formats.specs.declared.formats.SessionSettings.{SessionSettings}
 use Rattle.codec_payload_session.specs.declared.session.ArrivalCounts.{ArrivalCounts}
-use Rattle.codec_payload_session.specs.declared.stream.StreamState.{StreamState}
+use Rattle.codec_payload_session_stream.specs.declared.stream.StreamState.{StreamState}
 
 taken_if : (b is_new : Bool) (s : StreamState) → (reported_if b is_new s).taken ≡ s.taken
 taken_if true is_new s = refl

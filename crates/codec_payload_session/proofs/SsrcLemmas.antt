@@ -14,31 +14,30 @@ use Rattle.codec_payload_jitter.specs.declared.outcome.Outcome.{Outcome}
 use Rattle.codec_payload_receiver.specs.declared.receiver.ReceiveError.{ReceiveError}
 use Rattle.codec_payload_receiver.specs.Sessions.{Session as Receiver}
 use Rattle.std.specs.declared.result.Result.{Result}
-use Rattle.codec_payload_session.specs.Streams.{Drains, RequestsBy, RestsBy, Steps, StepsBy, is_of, Follows, StreamState, Takes, end_of, heard_unless, is_accepted, is_no_memory, is_probation, late_followed, late_noted, left_when, received, waiting_for, waiting_when}
+use Rattle.codec_payload_session_stream.specs.Streams.{Drains, RequestsBy, RestsBy, Steps, StepsBy, is_of, Follows, StreamState, Takes, end_of, heard_unless, is_accepted, is_no_memory, is_probation, late_followed, late_noted, left_when, received, waiting_for, waiting_when}
 use Rattle.codec_payload_jitter.specs.declared.jitter.WaitLimits.{WaitLimits}
 use Rattle.codec_payload_session.specs.Arrivals.{has_ssrc}
-use Rattle.codec_payload_session.specs.Changes.{any_left_behind, are_alike, continued, is_left_behind, is_playing, left_behind, takes_turns}
+use Rattle.codec_payload_session_stream.specs.Changes.{any_left_behind, are_alike, continued, is_left_behind, is_playing, left_behind, takes_turns}
 use Rattle.codec_payload_session_formats.specs.Formats.{is_video}
 use Rattle.codec_payload_session_requests.specs.Late.{limit_by}
-use Rattle.codec_payload_session.specs.Pairs.{paired_when}
-use Rattle.codec_payload_session.specs.Reporting.{all_reported, is_chosen, reported_if, room_after}
+use Rattle.codec_payload_session_stream.specs.Pairs.{paired_when}
+use Rattle.codec_payload_session.specs.Reporting.{all_reported, is_chosen, room_after}
+use Rattle.codec_payload_session_stream.specs.Reports.{reported_if}
 use Rattle.codec_payload_session_formats.specs.declared.formats.Format.{Format}
 use Rattle.codec_payload_session_formats.specs.declared.formats.SsrcPair.{SsrcPair}
-use Rattle.codec_payload_session.specs.declared.stream.Ending.TheVariants as endings
-use Rattle.codec_payload_session.specs.Turns.{AreQuiet, FirstSteps, StepsFirst}
-use Rattle.codec_payload_session.specs.Units.{Step, Turn}
-use Rattle.codec_payload_session.specs.Waking.{Grows, IsBound, IsIndexed, SaysNothing, ssrcs_of}
-use Rattle.codec_payload_session.specs.declared.stream.Ending.{Ending}
-use Rattle.codec_payload_session.specs.declared.stream.Stage.{Stage}
-use Rattle.codec_payload_session.specs.declared.stream.Stage.TheVariants as stages
-use Rattle.codec_payload_session.specs.declared.waking.Waking.{Waking}
-use Rattle.codec_payload_session.proofs.WakingLemmas.{says_bound}
+use Rattle.codec_payload_session_stream.specs.declared.stream.Ending.TheVariants as endings
+use Rattle.codec_payload_session_stream.specs.Turns.{AreQuiet, FirstSteps, StepsFirst}
+use Rattle.codec_payload_session_stream.specs.Units.{Step, Turn}
+use Rattle.codec_payload_session_stream.specs.Waking.{Grows, IsBound, SaysNothing, ssrcs_of}
+use Rattle.codec_payload_session.specs.Waking.{IsIndexed}
+use Rattle.codec_payload_session_stream.specs.declared.stream.Ending.{Ending}
+use Rattle.codec_payload_session_stream.specs.declared.stream.Stage.{Stage}
+use Rattle.codec_payload_session_stream.specs.declared.stream.Stage.TheVariants as stages
+use Rattle.codec_payload_session_stream.specs.declared.waking.Waking.{Waking}
+use Rattle.codec_payload_session_stream.proofs.WakingLemmas.{says_bound}
+use Rattle.codec_payload_session_stream.proofs.SsrcLemmas.{count_of, ssrc_at}
 
 -- ---- lists
-
-pub count_of : (ss : List StreamState) → length (ssrcs_of ss) ≡ length ss
-count_of [] = refl
-count_of (s ∷ ss) = ap suc (count_of ss)
 
 pub same_mapped : (f : StreamState → StreamState) (ss : List StreamState) → ((s : StreamState) → (f s).ssrc ≡ s.ssrc) → ssrcs_of (map f ss) ≡ ssrcs_of ss
 same_mapped f [] same = refl
@@ -160,11 +159,6 @@ step_ssrcs now idle ss None ts got = quiet_ssrcs now idle ss ts got
 step_ssrcs now idle ss (Some turn) ts got = first_ssrcs now idle ss turn ts got
 
 -- ---- what the list finds
-
-pub ssrc_at : (ss : List StreamState) (k : ℕ) (d : StreamState) → k < length ss → get_or (ssrcs_of ss) k 0 ≡ (get_or ss k d).ssrc
-ssrc_at [] k d within = absurd (omega (arith, within))
-ssrc_at (s ∷ ss) zero d within = refl
-ssrc_at (s ∷ ss) (suc k) d within = ssrc_at ss k d (omega (arith, within))
 
 -- a test that fails for each stream of another SSRC
 pub record IsOfSsrc (ssrc : ℕ) (p : StreamState → Bool) : Type 0 where

@@ -7,7 +7,7 @@ use Rattle.codec_payload_feedback.specs.Transport.{quarters_at}
 use Rattle.codec_payload_session.specs.Associations.{Associates}
 use Rattle.codec_payload_session.specs.Ports.{Session}
 use Rattle.codec_payload_session_requests.specs.Transports.{noted_at}
-use Rattle.codec_payload_session.specs.declared.session.Arrival.{Arrival}
+use Rattle.codec_payload_session_stream.specs.declared.arrival.Arrival.{Arrival}
 
 -- the datagram arrived on the transport at that time, in quarters of a millisecond, if the session reports what arrives there
 abbrev pub noted_in : ℕ → List ℕ → Session → Session

@@ -10,21 +10,22 @@ use Rattle.codec_payload_rtcp.specs.RtcpPackets.{Packet, sender_report, receiver
 use Rattle.codec_payload_rtcp.specs.RtcpReading.{compound_at}
 use Rattle.codec_payload_rtcp.specs.declared.packet.RtcpError.{RtcpError}
 use Rattle.codec_payload_receiver.specs.declared.receiver.ReceiveError.{ReceiveError}
-use Rattle.codec_payload_session.specs.Reports.{noted_at}
-use Rattle.codec_payload_session.specs.Changes.{continued, continues}
-use Rattle.codec_payload_session.specs.Streams.{Begins, Takes, info_of, is_no_memory, is_of, is_probation, left_when}
+use Rattle.codec_payload_session_stream.specs.Reports.{noted_at}
+use Rattle.codec_payload_session_stream.specs.Changes.{continued, continues}
+use Rattle.codec_payload_session_stream.specs.Streams.{Begins, Takes, info_of, is_no_memory, is_of, is_probation, left_when}
 use Rattle.codec_payload_session_formats.specs.declared.formats.Format.{Format}
 use Rattle.codec_payload_session_formats.specs.declared.formats.SessionSettings.{SessionSettings}
-use Rattle.codec_payload_session.specs.declared.session.Arrival.{Arrival}
-use Rattle.codec_payload_session.specs.declared.session.Arrival.TheVariants as arrivals
+use Rattle.codec_payload_session_stream.specs.declared.arrival.Arrival.{Arrival}
+use Rattle.codec_payload_session_stream.specs.declared.arrival.Arrival.TheVariants as arrivals
 use Rattle.codec_payload_session_formats.specs.Sorting.{Sorted, sorted_at}
 use Rattle.codec_payload_session_formats.specs.Sorting as sorted
-use Rattle.codec_payload_session.specs.declared.stream.Ending.{Ending}
-use Rattle.codec_payload_session.specs.declared.stream.Ending.TheVariants as endings
-use Rattle.codec_payload_session.specs.declared.stream.StreamState.{StreamState}
-use Rattle.codec_payload_session.specs.declared.stream.StreamInfo.{StreamInfo}
+use Rattle.codec_payload_session_stream.specs.declared.stream.Ending.{Ending}
+use Rattle.codec_payload_session_stream.specs.declared.stream.Ending.TheVariants as endings
+use Rattle.codec_payload_session_stream.specs.declared.stream.StreamState.{StreamState}
+use Rattle.codec_payload_session_stream.specs.declared.stream.StreamInfo.{StreamInfo}
 use Rattle.codec_payload_session.specs.declared.streams.Who.{Who}
 use Rattle.codec_payload_session.specs.declared.streams.Who.TheVariants as whos
+use Rattle.codec_payload_session_stream.specs.Arrivals.{arrival_of, Arrives}
 
 abbrev pub sum_wrapped : ℕ → ℕ → ℕ
 sum_wrapped m n = (m + n) % 2 ^ 64
@@ -88,16 +89,6 @@ abbrev pub left_where : (ℕ → Bool) → Ending → ℕ → List StreamState �
 left_where who why at ss = map (left_if who why at) ss
 
 -- ---- a datagram for a stream that exists
-
--- the outcome of a datagram that a receiver accepted or dropped, or the fault for which it refused the datagram
-abbrev pub arrival_of : (ssrc payload_type : ℕ) → Result Outcome ReceiveError → Arrival
-arrival_of ssrc payload_type (Ok outcome) = arrivals.Stream ssrc payload_type outcome
-arrival_of ssrc payload_type (Err fault) = arrivals.Faulty ssrc payload_type fault
-
--- if memory runs out for the datagram, there is an error instead of an answer
-abbrev pub Arrives : Bool → Arrival → Result Arrival AllocError → Type 0
-Arrives false arrival answer = answer ≡ Ok arrival
-Arrives true arrival answer = IsErr answer
 
 -- the stream at a place receives it, and no other stream changes
 pub record Feeds (probation place : ℕ) (now : Ticks) (bytes : List ℕ) (p : Port) (answer : Result Arrival AllocError) (q : Port) : Type 0 where

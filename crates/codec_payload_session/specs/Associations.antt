@@ -9,9 +9,10 @@ use Rattle.codec_payload_rtp.specs.RtpReading.{rtp_at}
 use Rattle.codec_payload_rtp.specs.declared.rtp.RtpError.{RtpError}
 use Rattle.codec_payload_numbers.specs.Reports.{transit_change}
 use Rattle.codec_payload_session.specs.Arrivals.{Port, TakesIn}
-use Rattle.codec_payload_session.specs.Changes.{is_playing}
+use Rattle.codec_payload_session_stream.specs.Changes.{is_playing}
 use Rattle.codec_payload_session_formats.specs.Formats.{role_of, stream_of}
-use Rattle.codec_payload_session.specs.Pairs.{Pairs, paired_where, with_pair}
+use Rattle.codec_payload_session.specs.Pairs.{Pairs}
+use Rattle.codec_payload_session_stream.specs.Pairs.{paired_where, with_pair}
 use Rattle.codec_payload_session.specs.Ports.{Receives, Session}
 use Rattle.codec_payload_session_requests.specs.Requests.{has_requested, original_number}
 use Rattle.codec_payload_session.specs.declared.association.Unpaired.{Unpaired}
@@ -19,9 +20,9 @@ use Rattle.codec_payload_session_formats.specs.declared.formats.Role.{Role}
 use Rattle.codec_payload_session_formats.specs.declared.formats.Role.TheVariants as roles
 use Rattle.codec_payload_session_formats.specs.declared.formats.SessionSettings.{SessionSettings}
 use Rattle.codec_payload_session_formats.specs.declared.formats.SsrcPair.{SsrcPair}
-use Rattle.codec_payload_session.specs.declared.session.Arrival.{Arrival}
-use Rattle.codec_payload_session.specs.declared.session.Arrival.TheVariants as arrivals
-use Rattle.codec_payload_session.specs.declared.stream.StreamState.{StreamState}
+use Rattle.codec_payload_session_stream.specs.declared.arrival.Arrival.{Arrival}
+use Rattle.codec_payload_session_stream.specs.declared.arrival.Arrival.TheVariants as arrivals
+use Rattle.codec_payload_session_stream.specs.declared.stream.StreamState.{StreamState}
 
 -- ---- the retransmission
 

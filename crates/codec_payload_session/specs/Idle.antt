@@ -3,14 +3,14 @@ use Rattle.std.specs.Prelude.{◌≤◌, ◌<◌, ◌+◌, ◌^◌, ℕ, List, [
 use Rattle.codec_payload_base.specs.declared.wire.Ticks.{Ticks}
 use Rattle.codec_payload_session.specs.Polls.{Polls}
 use Rattle.codec_payload_session.specs.Ports.{Session}
-use Rattle.codec_payload_session.specs.Quiet.{IsBefore}
+use Rattle.codec_payload_session_stream.specs.Quiet.{IsBefore}
 use Rattle.codec_payload_session.specs.Reporting.{report_deadline}
-use Rattle.codec_payload_session.specs.Streams.{due_in, earlier}
-use Rattle.codec_payload_session.specs.Telephone.{due_before}
+use Rattle.codec_payload_session_stream.specs.Streams.{due_in, earlier}
+use Rattle.codec_payload_session_stream.specs.Telephone.{due_before}
 use Rattle.codec_payload_session_requests.specs.Transports.{transport_deadline}
-use Rattle.codec_payload_session.specs.Units.{Event}
-use Rattle.codec_payload_session.specs.declared.session.Event.TheVariants as events
-use Rattle.codec_payload_session.specs.declared.stream.StreamState.{StreamState}
+use Rattle.codec_payload_session_stream.specs.Units.{Event}
+use Rattle.codec_payload_session_stream.specs.declared.events.Event.TheVariants as events
+use Rattle.codec_payload_session_stream.specs.declared.stream.StreamState.{StreamState}
 
 -- when a poll may have an event without a datagram: at once while telephone events wait, else the time of a stream, of the report, or of
 -- the feedback about the transport

@@ -9,13 +9,13 @@ use Rattle.codec_payload_session.specs.Arrivals.{Port, has_ssrc}
 use Rattle.codec_payload_session.specs.Idle.{next_of}
 use Rattle.codec_payload_session.specs.Polls.{Polls}
 use Rattle.codec_payload_session.specs.Ports.{Session}
-use Rattle.codec_payload_session.specs.Quiet.{IsBefore}
+use Rattle.codec_payload_session_stream.specs.Quiet.{IsBefore}
 use Rattle.codec_payload_session_requests.specs.Requests.{Asking, is_heard, refreshed}
-use Rattle.codec_payload_session.specs.Streams.{StreamState, answer_for, asked_for}
-use Rattle.codec_payload_session.specs.Units.{Event}
+use Rattle.codec_payload_session_stream.specs.Streams.{StreamState, answer_for, asked_for}
+use Rattle.codec_payload_session_stream.specs.Units.{Event}
 use Rattle.codec_payload_session_requests.specs.declared.requests.KeyframeAnswer.{KeyframeAnswer}
 use Rattle.codec_payload_session_requests.specs.declared.requests.KeyframeAnswer.TheVariants as answers
-use Rattle.codec_payload_session.specs.declared.stream.Stage.TheVariants as stages
+use Rattle.codec_payload_session_stream.specs.declared.stream.Stage.TheVariants as stages
 
 abbrev pub answer_of : Option StreamState → KeyframeAnswer
 answer_of None = answers.NoStream

@@ -8,17 +8,13 @@ use Rattle.codec_payload_feedback.specs.Transport.{Reporter}
 use Rattle.codec_payload_session.specs.Arrivals.{Port}
 use Rattle.codec_payload_session.specs.Ports.{Session}
 use Rattle.codec_payload_session.specs.Reporting.{ReportsBy}
-use Rattle.codec_payload_session.specs.Telephone.{event_of}
+use Rattle.codec_payload_session_stream.specs.Telephone.{event_of}
 use Rattle.codec_payload_session_requests.specs.Transports.{SendsBy}
 use Rattle.codec_payload_session.specs.Turns.{TakesTurn}
-use Rattle.codec_payload_session.specs.Units.{Event}
-use Rattle.codec_payload_session.specs.declared.session.Event.{Event as EventWith}
-use Rattle.codec_payload_session.specs.declared.session.Event.TheVariants as events
-use Rattle.codec_payload_session.specs.declared.telephone.TelephonePacket.{TelephonePacket}
-
-abbrev pub report_event : {U : Type 0} → Option (Result (Vec ℕ) AllocError) → Option (EventWith U)
-report_event None = None
-report_event (Some packet) = Some (events.Report packet)
+use Rattle.codec_payload_session_stream.specs.Units.{Event}
+use Rattle.codec_payload_session_stream.specs.declared.events.Event.{Event as EventWith}
+use Rattle.codec_payload_session_stream.specs.declared.telephone.TelephonePacket.{TelephonePacket}
+use Rattle.codec_payload_session_stream.specs.Events.{report_event, transport_event}
 
 -- the report, if one is due
 pub record SendsReport {U : Type 0} (now : ℕ) (s : Session) (answer : Option (EventWith U)) (t : Session) : Type 0 where
@@ -40,10 +36,6 @@ pub record TurnsOrReports (now : Ticks) (s : Session) (answer : Option Event) (t
   pub port : Port
   pub turn : TakesTurn now s.settings.idle_timeout s.port event port
   pub goes_on : GoesOn event now.0 (record s { port = port }) answer t
-
-abbrev pub transport_event : {U : Type 0} → Option (Result (Vec ℕ) AllocError) → Option (EventWith U)
-transport_event None = None
-transport_event (Some packet) = Some (events.TransportFeedback packet)
 
 -- the feedback about the transport, if it is due
 pub record SendsTransport {U : Type 0} (now : ℕ) (s : Session) (answer : Option (EventWith U)) (t : Session) : Type 0 where

@@ -8,23 +8,23 @@ use Rattle.codec_payload_feedback.specs.Transport.{Reporter}
 use Rattle.codec_payload_jitter.specs.Receiving.{next}
 use Rattle.codec_payload_session.specs.Arrivals.{Port, TakesIn, left_where}
 use Rattle.codec_payload_session_formats.specs.Checks.{fault_of}
-use Rattle.codec_payload_session.specs.Reports.{block_of, reported_by}
-use Rattle.codec_payload_session.specs.Streams.{IsInfo, is_former, waiting_where}
-use Rattle.codec_payload_session.specs.Telephone.{MayLackMemory, Queue, QueuesIf, empty_queue, is_without_media, telephone_at}
+use Rattle.codec_payload_session_stream.specs.Reports.{block_of, reported_by}
+use Rattle.codec_payload_session_stream.specs.Streams.{IsInfo, is_former, waiting_where}
+use Rattle.codec_payload_session_stream.specs.Telephone.{MayLackMemory, Queue, QueuesIf, empty_queue, is_without_media, telephone_at}
 use Rattle.codec_payload_session_requests.specs.Transports.{reporter_for, restarted_if}
 use Rattle.codec_payload_jitter.specs.declared.waiting.WaitLimits.{WaitLimits}
 use Rattle.codec_payload_rtcp.specs.declared.items.ReportBlock.{ReportBlock}
 use Rattle.codec_payload_receiver.specs.Sessions.{Session as Receiver}
 use Rattle.codec_payload_session_formats.specs.declared.checks.SessionSettingsError.{SessionSettingsError}
 use Rattle.codec_payload_session_formats.specs.declared.formats.SessionSettings.{SessionSettings}
-use Rattle.codec_payload_session.specs.declared.session.Arrival.{Arrival}
-use Rattle.codec_payload_session.specs.declared.session.Arrival.TheVariants as arrivals
+use Rattle.codec_payload_session_stream.specs.declared.arrival.Arrival.{Arrival}
+use Rattle.codec_payload_session_stream.specs.declared.arrival.Arrival.TheVariants as arrivals
 use Rattle.codec_payload_session.specs.declared.session.ArrivalCounts.{ArrivalCounts}
 use Rattle.codec_payload_session.specs.declared.session.SessionCounts.{SessionCounts}
 use Rattle.codec_payload_session_formats.specs.declared.names.StreamNames.{StreamNames}
-use Rattle.codec_payload_session.specs.declared.stream.Ending.TheVariants as endings
-use Rattle.codec_payload_session.specs.declared.stream.StreamInfo.{StreamInfo}
-use Rattle.codec_payload_session.specs.declared.stream.StreamState.{StreamState}
+use Rattle.codec_payload_session_stream.specs.declared.stream.Ending.TheVariants as endings
+use Rattle.codec_payload_session_stream.specs.declared.stream.StreamInfo.{StreamInfo}
+use Rattle.codec_payload_session_stream.specs.declared.stream.StreamState.{StreamState}
 
 -- the settings, the streams, the counters of datagrams, the packets of telephone events that wait, when the next report is due, and the
 -- arrivals on the transport, if they are reported

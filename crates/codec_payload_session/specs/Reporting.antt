@@ -9,11 +9,11 @@ use Rattle.codec_payload_rtcp.specs.RtcpPackets.{IsCompound, Packet, receiver_re
 use Rattle.codec_payload_rtcp.specs.RtcpWriting.{AreUnpadded}
 use Rattle.codec_payload_rtcp.specs.declared.items.ReportBlock.{ReportBlock}
 use Rattle.codec_payload_session.specs.Arrivals.{Port}
-use Rattle.codec_payload_session.specs.Reports.{block_of, reported_by}
+use Rattle.codec_payload_session_stream.specs.Reports.{block_of, reported_if}
 use Rattle.codec_payload_session_requests.specs.Requests.{source_for}
-use Rattle.codec_payload_session.specs.Streams.{later}
+use Rattle.codec_payload_session_stream.specs.Streams.{later}
 use Rattle.codec_payload_session_formats.specs.declared.formats.FeedbackSettings.{FeedbackSettings}
-use Rattle.codec_payload_session.specs.declared.stream.StreamState.{StreamState}
+use Rattle.codec_payload_session_stream.specs.declared.stream.StreamState.{StreamState}
 
 -- ---- the streams of a report
 
@@ -67,11 +67,6 @@ is_first_chosen is_new room (s ∷ later) = is_chosen is_new room s later
 abbrev pub room_after : Bool → ℕ → ℕ
 room_after true room = room - 1
 room_after false room = room
-
--- the next report of a reported stream starts its fraction here
-abbrev pub reported_if : Bool → Bool → StreamState → StreamState
-reported_if true is_new s = record (reported_by s) { was_reported = true }
-reported_if false is_new s = record s { was_reported = not is_new && s.was_reported }
 
 -- the streams after a report of this round
 abbrev pub all_reported : Bool → ℕ → List StreamState → List StreamState

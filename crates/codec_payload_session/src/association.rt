@@ -6,14 +6,14 @@ ghost use Rattle.codec_payload_session.specs.Arrivals.{TakesIn};
 ghost use Rattle.codec_payload_session.specs.Associations.{AddsPair, TakesInBy, has_pair, is_on_time, is_unassociated, may_be_of, owner_of, pair_at, unpaired_at, unpaired_of};
 ghost use Rattle.codec_payload_session_formats.specs.Checks.{fault_of};
 
-use crate::session::Arrival;
-use crate::stream::{StreamState, is_playing};
 use crate::streams::Streams;
 use codec_payload_base::wire::Ticks;
 use codec_payload_datagrams::parsed::ParsedDatagram;
 use codec_payload_rtp::rtp::RtpPacket;
 use codec_payload_session_formats::formats::{Role, SessionSettings, SsrcPair};
 use codec_payload_session_requests::requests::{has_requested, original_number};
+use codec_payload_session_stream::arrival::Arrival;
+use codec_payload_session_stream::stream::{StreamState, is_playing};
 use std::alloc::AllocError;
 
 /// How far the RTP time of a retransmission may be from the clock of its stream's sender, in seconds.

@@ -3,16 +3,16 @@
 ghost use Rattle.std.specs.Prelude.{◌≡◌, false};
 ghost use Rattle.codec_payload_rtcp.specs.RtcpReading.{packets_left};
 ghost use Rattle.codec_payload_session.specs.Arrivals.{left_where, say_goodbye};
-ghost use Rattle.codec_payload_session.specs.Reports.{noted_where};
-ghost use Rattle.codec_payload_session.specs.Waking.{ssrcs_of};
-ghost use Rattle.codec_payload_session.specs.declared.stream.Ending.TheVariants as endings;
+ghost use Rattle.codec_payload_session_stream.specs.Reports.{noted_where};
+ghost use Rattle.codec_payload_session_stream.specs.Waking.{ssrcs_of};
+ghost use Rattle.codec_payload_session_stream.specs.declared.stream.Ending.TheVariants as endings;
 
 use crate::goodbyes::{either, leave_by_packet};
-use crate::reports::note_packet;
-use crate::stream::StreamState;
 use codec_payload_base::wire::Ticks;
 use codec_payload_index::ssrcs::Ssrcs;
 use codec_payload_rtcp::compound::Packets;
+use codec_payload_session_stream::reports::note_packet;
+use codec_payload_session_stream::stream::StreamState;
 
 /// Takes the packets of a compound packet that arrived at `now`, each once. A sender report states the clock of the streams of its
 /// SSRC. The streams that a BYE names end at `at`. If no stream ends, it returns `false`.

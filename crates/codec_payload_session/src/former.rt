@@ -3,10 +3,10 @@
 ghost use Rattle.std.specs.Prelude.{◌≡◌, ◌<◌, IfSome, length};
 ghost use Rattle.std.specs.List.{position};
 ghost use Rattle.codec_payload_session.specs.Ports.{ssrc_among};
-ghost use Rattle.codec_payload_session.specs.Streams.{is_former};
+ghost use Rattle.codec_payload_session_stream.specs.Streams.{is_former};
 
-use crate::stream::StreamState;
 use codec_payload_session_formats::names::StreamNames;
+use codec_payload_session_stream::stream::StreamState;
 
 /// Returns the SSRC of the first other stream that is announced and has these names.
 pub(crate) fn former(streams: &[StreamState], ssrc: u32, names: StreamNames) -> Option<u32>

@@ -4,14 +4,14 @@ ghost use Rattle.std.specs.Prelude.{◌≡◌, false};
 ghost use Rattle.codec_payload_base.specs.Answers.{Finds};
 ghost use Rattle.codec_payload_rtcp.specs.RtcpValues.{packet_of};
 ghost use Rattle.codec_payload_session.specs.Arrivals.{includes, left_where, named_in, says_goodbye, source_at_front};
-ghost use Rattle.codec_payload_session.specs.Waking.{ssrcs_of};
-ghost use Rattle.codec_payload_session.specs.declared.stream.Ending.TheVariants as endings;
+ghost use Rattle.codec_payload_session_stream.specs.Waking.{ssrcs_of};
+ghost use Rattle.codec_payload_session_stream.specs.declared.stream.Ending.TheVariants as endings;
 ghost use Rattle.codec_payload_session.specs.declared.streams.Who.TheVariants as whos;
 
-use crate::stream::{Ending, StreamState};
 use crate::streams::{Who, leave_if};
 use codec_payload_index::ssrcs::Ssrcs;
 use codec_payload_rtcp::packet::RtcpPacket;
+use codec_payload_session_stream::stream::{Ending, StreamState};
 
 /// Ends the streams that the packet names, if it is a BYE. Without such a stream it returns `false`.
 #[inline(always)]

@@ -3,22 +3,14 @@
 #![tactic(auto)]
 
 pub use codec_payload_session_formats::{checks, formats, names};
+pub use codec_payload_session_stream::{reports, stream};
 
 mod association;
-mod changes;
 mod compound;
-mod dues;
-mod events;
 mod former;
 mod goodbyes;
 pub mod keyframe;
-mod pairs;
-mod renegotiation;
 mod reporter;
-pub mod reports;
 pub mod session;
-pub mod stream;
 mod streams;
-mod telephone;
 mod transport;
-mod waking;

@@ -1,22 +1,20 @@
 //! The receiver reports that a session sends by itself (RFC 3550, sections 6.1 and 6.4.2): about which streams, when, and as
 //! which packet.
 
-ghost use Rattle.std.specs.Prelude.{◌≡◌, ◌++◌, ◌+◌, ◌*◌, min, ◌<◌, ◌≤◌, ◌%◌, drop, max, IfErr, IfOk, IfSome, OnOk, length};
+ghost use Rattle.std.specs.Prelude.{◌≡◌, ◌++◌, ◌+◌, ◌*◌, min, ◌<◌, ◌≤◌, ◌%◌, drop, max, IfErr, IfOk, OnOk, length};
 ghost use Rattle.codec_payload_feedback.specs.Feedback.{AppendsAll, cname_by, cname_part};
 ghost use Rattle.codec_payload_rtcp.specs.RtcpWriting.{Appends};
-ghost use Rattle.codec_payload_session.specs.Reporting.{AppendsGroups, IsReport, ReportsBy, ReportsEach, TakeTurns, all_reported, any_announced, blocks_of, blocks_within, bytes_if, bytes_of, due_after, due_streams, has_announced, is_first_chosen, is_first_due, is_first_reported, is_new_round, is_report_due, is_time, most_blocks, name_length, planned, report_deadline, report_of_group, reported_if, room_after};
-ghost use Rattle.codec_payload_session.specs.Reports.{block_of};
+ghost use Rattle.codec_payload_session.specs.Reporting.{AppendsGroups, IsReport, ReportsBy, ReportsEach, TakeTurns, all_reported, any_announced, blocks_of, blocks_within, bytes_if, bytes_of, due_after, due_streams, has_announced, is_first_chosen, is_first_due, is_first_reported, is_new_round, is_report_due, is_time, most_blocks, name_length, planned, report_deadline, report_of_group, room_after};
+ghost use Rattle.codec_payload_session_stream.specs.Reports.{block_of};
 ghost use Rattle.codec_payload_session_requests.specs.Requests.{source_for};
-ghost use Rattle.codec_payload_session.specs.Streams.{later};
+ghost use Rattle.codec_payload_session_stream.specs.Streams.{later};
 
-use crate::reports::block_about;
-use crate::stream::StreamState;
 use crate::streams::Streams;
 use codec_payload_base::wire::{Frequency, Ticks};
-use codec_payload_rtcp::items::ReportBlock;
 use codec_payload_rtcp::packet::ReceiverReport;
 use codec_payload_rtcp::writing::{write_cname, written_packets_are_read};
 use codec_payload_session_formats::formats::{FeedbackSettings, LONGEST_NAME, SessionSettings};
+use codec_payload_session_stream::stream::StreamState;
 use std::alloc::{AllocError, Global};
 
 /// The bytes of the 31 blocks that a receiver report holds at most.
@@ -95,31 +93,6 @@ impl Streams {
         self.waking.forget();
         start_fractions(&mut self.list, round);
         Ok(packet)
-    }
-}
-
-impl StreamState {
-    /// Returns the block that a report about the stream's sender has now, and changes nothing.
-    pub(crate) fn peek_report(&self, now: Ticks, tick_rate: Frequency) -> Option<ReportBlock>
-        ensures value { result ≡ block_of tick_rate now.0 self.now }
-        ensures fits { IfSome result (λ block. block.cumulative_lost < 16777216) }
-    {
-        match self.receiver.inner().peek_report() {
-            Some(report) => Some(block_about(self.ssrc, self.sender_clock, report, now, tick_rate)),
-            None => None,
-        }
-    }
-
-    /// Starts the fraction of the next report here, if the stream is reported now. In a new round no other stream was reported.
-    fn start_fraction(&mut self, is_reported: bool, is_new: bool)
-        ensures { self.new ≡ reported_if is_reported is_new self.old }
-    {
-        if is_reported {
-            self.receiver.report();
-            self.was_reported = true;
-        } else {
-            self.was_reported = !is_new && self.was_reported;
-        }
     }
 }
 

@@ -9,31 +9,25 @@ ghost use Rattle.codec_payload_session.specs.Associations.{Associates};
 ghost use Rattle.codec_payload_session_formats.specs.Checks.{checked, fault_of};
 ghost use Rattle.codec_payload_session.specs.Idle.{IsIdle, held_in, next_of};
 ghost use Rattle.codec_payload_session.specs.Ports.{IsSum, MatchInfo, ReportsIf, counted, counted_if, ends_all, ends_of, former_among, made_of, names_among, no_counts, receiver_among, restarts_transport, taken_in, told_counts, waits_of};
-ghost use Rattle.codec_payload_session.specs.Reports.{block_among, clock_among};
+ghost use Rattle.codec_payload_session_stream.specs.Reports.{block_among, clock_among};
 ghost use Rattle.codec_payload_session.specs.Polls.{Polls, SendsReport, SendsTransport, TurnsOrReports, TurnsOrSends};
 ghost use Rattle.codec_payload_session.specs.Renegotiation.{SetsFormats, with_formats};
-ghost use Rattle.codec_payload_session.specs.Streams.{is_of};
-ghost use Rattle.codec_payload_session.specs.Pairs.{Pairs, with_pair, without_pair};
-ghost use Rattle.codec_payload_session.specs.Units.{HasUnit, event_to};
+ghost use Rattle.codec_payload_session_stream.specs.Streams.{is_of};
+ghost use Rattle.codec_payload_session.specs.Pairs.{Pairs};
+ghost use Rattle.codec_payload_session_stream.specs.Pairs.{with_pair, without_pair};
+ghost use Rattle.codec_payload_session_stream.specs.Units.{HasUnit, event_to};
 
 use crate::association::{add_pair, take_in};
-use crate::events::{report_event, transport_event, with_unit};
 use crate::former::former;
-use crate::pairs::remove_pair;
 use crate::reporter::report_deadline;
-use crate::reports::SenderClock;
-use crate::stream::{Ending, StreamInfo, earlier};
 use crate::streams::{Streams, Who};
-use crate::telephone::TelephoneQueue;
-use codec_payload_base::error::PacketError;
 use codec_payload_base::wire::Ticks;
 use codec_payload_buffer::buffer::PoppedUnit;
 use codec_payload_datagrams::parsed::ParsedDatagram;
 use codec_payload_feedback::transport::TransportReporter;
 use codec_payload_feedback_congestion::arrivals::quarters;
 use codec_payload_jitter::jitter::WaitLimits;
-use codec_payload_jitter::outcome::Outcome;
-use codec_payload_receiver::receiver::{ReceiveError, Receiver};
+use codec_payload_receiver::receiver::Receiver;
 use codec_payload_rtcp::items::ReportBlock;
 use codec_payload_session_formats::checks::SessionSettingsError;
 use codec_payload_session_formats::formats::{Format, SessionSettings, SsrcPair};
@@ -41,142 +35,16 @@ use codec_payload_session_formats::names::StreamNames;
 use codec_payload_session_requests::transports::{
     note, reporter_for, restart, time_of, transport_deadline,
 };
+pub use codec_payload_session_stream::arrival::Arrival;
+pub use codec_payload_session_stream::events::Event;
+use codec_payload_session_stream::events::{report_event, transport_event, with_unit};
+use codec_payload_session_stream::pairs::remove_pair;
+use codec_payload_session_stream::reports::SenderClock;
+use codec_payload_session_stream::stream::{Ending, StreamInfo, earlier};
+use codec_payload_session_stream::telephone::TelephoneQueue;
 use std::alloc::{AllocError, Global};
 use std::marker::Model;
 use std::mem;
-
-/// What a session did with a datagram.
-#[derive(Clone, Copy, Debug, PartialEq, Eq)]
-pub enum Arrival {
-    /// A compound packet of RTCP. The streams that its BYE names end (RFC 3550, section 6.6), and its sender reports state the
-    /// clocks of streams (section 6.4.1).
-    Rtcp,
-    /// The datagram is not RTP, and not a valid compound packet of RTCP.
-    Malformed,
-    /// The payload type is not in the settings, or it is one without media and its SSRC has no stream.
-    Unknown,
-    /// The datagram would begin a stream, but all places are taken or the session is finished.
-    Refused,
-    /// A retransmission whose stream is not known: no pair names its SSRC, and none or several streams fit
-    /// ([`Session::receive`]).
-    Unassociated,
-    /// The stream of this SSRC and payload type received the datagram. `outcome` is what [`Receiver::receive`] returned: the
-    /// packet was stored, or why it was dropped.
-    ///
-    /// [`Receiver::receive`]: codec_payload_receiver::receiver::Receiver::receive
-    Stream {
-        ssrc: u32,
-        payload_type: u8,
-        outcome: Outcome,
-    },
-    /// The stream of this SSRC and payload type refused the datagram: its payload is not valid RED or not a valid
-    /// retransmission, or memory ran out for older blocks of RED. The stream counts it, and continues. Any peer can send such a
-    /// datagram, so do not end a program for it. `fault` is the error of [`Receiver::receive`], and never
-    /// [`ReceiveError::OutOfMemory`].
-    ///
-    /// [`Receiver::receive`]: codec_payload_receiver::receiver::Receiver::receive
-    Faulty {
-        ssrc: u32,
-        payload_type: u8,
-        fault: ReceiveError,
-    },
-}
-
-/// An event of a session. `U` is what it carries of a unit: the unit itself from [`Session::poll`], and `()` from
-/// [`Session::poll_into`], which writes the unit to memory of the caller.
-#[derive(Debug, Drop)]
-pub enum Event<U = PoppedUnit> {
-    /// A stream is announced. This is the first event of the stream. [`Session::names_of`] returns its MID and RID, as far as its
-    /// packets had them before.
-    Begun {
-        ssrc: u32,
-        payload_type: u8,
-    },
-    /// A unit of a stream. If memory ran out for it, the frame is kept, and the next poll tries again. `rtp_time` is in ticks of
-    /// the RTP clock, without wrapping. A decoder can show the unit if it is `decodable`: see [`Receiver::unit_is_decodable`],
-    /// and [`Receiver::unit_is_keyframe`] for `keyframe`.
-    ///
-    /// [`Receiver::unit_is_decodable`]: codec_payload_receiver::receiver::Receiver::unit_is_decodable
-    /// [`Receiver::unit_is_keyframe`]: codec_payload_receiver::receiver::Receiver::unit_is_keyframe
-    Unit {
-        ssrc: u32,
-        payload_type: u8,
-        rtp_time: Option<u64>,
-        decodable: bool,
-        keyframe: bool,
-        unit: Result<U, AllocError>,
-    },
-    /// A unit of a stream with more bytes than `max_unit` of the settings. It counts as a refused frame: its packets count as
-    /// `left`, for video the units after it follow a loss, and the stream continues. Any peer can send such a unit, so do not
-    /// end a program for it.
-    TooLarge {
-        ssrc: u32,
-        payload_type: u8,
-        unit: U,
-    },
-    /// A frame of a stream that the depacketizer refused, since its payloads are malformed. The frame was dropped, its packets
-    /// count as `left`, and the stream continues. Any peer can send such a frame, so do not end a program for it. `fault` is
-    /// never [`PacketError::OutOfMemory`].
-    Refused {
-        ssrc: u32,
-        payload_type: u8,
-        fault: PacketError,
-    },
-    /// A compound packet of RTCP for the sender of a stream, which `packet` returns: a NACK of the packets that are to be
-    /// requested now (RFC 4585, section 6.2.1), and a PLI if a keyframe is (section 6.3.1). Send it: its requests count as
-    /// sent. If memory ran out, they stay due, and the next poll tries again.
-    Feedback {
-        ssrc: u32,
-        payload_type: u8,
-        packet: Result<Vec<u8>, AllocError>,
-    },
-    /// A packet of telephone events (RFC 4733) that a stream of this SSRC took as one without media: its payload type is one of
-    /// `telephone_events` of the settings. `payload` has a report of 4 bytes for each event ([`TelephoneEvent::parse_all`] reads
-    /// them; a sender may put anything into it), `rtp_time` is the RTP time at which the events began, in ticks of the RTP clock,
-    /// and `marker` is set in the first packet of an event.
-    ///
-    /// All packets of an event have the same RTP time, its last one is sent three times (section 2.5.1), and a network can repeat
-    /// any of them, so go by the RTP time. It is also returned for a stream that is not announced yet.
-    ///
-    /// [`TelephoneEvent::parse_all`]: codec_payload_base::interface::TelephoneEvent::parse_all
-    Telephone {
-        ssrc: u32,
-        payload_type: u8,
-        rtp_time: u32,
-        marker: bool,
-        payload: Vec<u8>,
-    },
-    /// A compound packet of RTCP for all senders, which `packet` returns: a receiver report (RFC 3550, section 6.4.2) about the
-    /// announced streams, each [`FeedbackSettings::report_interval`]. Send it. If memory ran out, nothing has changed, and the
-    /// next poll tries again.
-    ///
-    /// It has a block about each announced stream that has one ([`Session::report`]), in the order in which they began; of two
-    /// streams with one SSRC only about the later one. A report holds at most 31 blocks, so more streams take several reports
-    /// in the packet. Without a block there is one empty report. The name of the session follows, if it has one.
-    ///
-    /// [`FeedbackSettings::report_interval`]: codec_payload_session_formats::formats::FeedbackSettings::report_interval
-    Report {
-        packet: Result<Vec<u8>, AllocError>,
-    },
-    /// A packet of RTCP for the peer, which `packet` returns: transport-wide feedback, which says when each packet of the transport
-    /// arrived since the last one, or that it is missing (draft-holmer-rmcat-transport-wide-cc-extensions-01, section 3.1). Send it:
-    /// its arrivals count as reported. If memory ran out, nothing has changed, and the next poll tries again.
-    ///
-    /// It comes each [`TransportSettings::interval`] while packets arrive, in parts if it is larger than
-    /// [`TransportSettings::size`]. With `has_report` of the feedback's settings it follows an empty receiver report and the name.
-    ///
-    /// [`TransportSettings::interval`]: codec_payload_feedback::transport::TransportSettings::interval
-    /// [`TransportSettings::size`]: codec_payload_feedback::transport::TransportSettings::size
-    TransportFeedback {
-        packet: Result<Vec<u8>, AllocError>,
-    },
-    /// A stream was removed. This is the last event of the stream. [`Session::last_stream`] then has its last counts.
-    Ended {
-        ssrc: u32,
-        payload_type: u8,
-        why: Ending,
-    },
-}
 
 /// Counts of datagrams by result, each modulo 2^64. `received` is the sum of all others except `telephone_dropped`, and of the
 /// datagrams that the existing streams took.
@@ -286,8 +154,8 @@ impl Session {
     /// the transport; the first time counts.
     ///
     /// [`Receiver::receive`]: codec_payload_receiver::receiver::Receiver::receive
-    /// [`StreamInfo::sender_clock`]: crate::stream::StreamInfo::sender_clock
-    /// [`Ending::Changed`]: crate::stream::Ending::Changed
+    /// [`StreamInfo::sender_clock`]: codec_payload_session_stream::stream::StreamInfo::sender_clock
+    /// [`Ending::Changed`]: codec_payload_session_stream::stream::Ending::Changed
     pub fn receive(&mut self, now: Ticks, datagram: &[u8]) -> Result<Arrival, AllocError>
         ensures { Accepts (time_for Option.None now self.old) now datagram.now self.old result self.new }
     {
@@ -499,7 +367,7 @@ impl Session {
     ///
     /// The first setting that no session can meet with these formats ([`SessionSettings::check`]): the session is unchanged.
     ///
-    /// [`Ending::Changed`]: crate::stream::Ending::Changed
+    /// [`Ending::Changed`]: codec_payload_session_stream::stream::Ending::Changed
     /// [`SessionSettings::check`]: codec_payload_session_formats::formats::SessionSettings::check
     pub fn set_formats(
         &mut self,
@@ -541,7 +409,7 @@ impl Session {
     /// 18 hours.
     ///
     /// [`Receiver::report`]: codec_payload_receiver::receiver::Receiver::report
-    /// [`StreamInfo::sender_clock`]: crate::stream::StreamInfo::sender_clock
+    /// [`StreamInfo::sender_clock`]: codec_payload_session_stream::stream::StreamInfo::sender_clock
     pub fn report(&mut self, now: Ticks, ssrc: u32, payload_type: u8) -> Option<ReportBlock>
         ensures reports { (port : Port) × ReportsIf (position (is_of ssrc payload_type) self.old.port.streams) self.old.settings.tick_rate now.0 self.old.port result port × (self.new ≡ record self.old { port = port }) }
         // So the block can be written.
@@ -556,7 +424,7 @@ impl Session {
     /// ([`FeedbackSettings::report_interval`]). The round trip is in [`StreamInfo::round_trip`]. Allocates nothing.
     ///
     /// [`FeedbackSettings::report_interval`]: codec_payload_session_formats::formats::FeedbackSettings::report_interval
-    /// [`StreamInfo::round_trip`]: crate::stream::StreamInfo::round_trip
+    /// [`StreamInfo::round_trip`]: codec_payload_session_stream::stream::StreamInfo::round_trip
     pub fn peek_report(&self, now: Ticks, ssrc: u32, payload_type: u8) -> Option<ReportBlock>
         ensures value { result ≡ block_among (position (is_of ssrc payload_type) self.now.port.streams) self.now.settings.tick_rate now.0 self.now.port.streams }
         ensures fits { IfSome result (λ block. block.cumulative_lost < 16777216) }
@@ -570,7 +438,7 @@ impl Session {
     /// Returns what the latest sender report about the stream with this SSRC and payload type says. `None`: there is no such
     /// stream, or no report arrived since it began. See [`SenderClock::ntp_at`].
     ///
-    /// [`SenderClock::ntp_at`]: crate::reports::SenderClock::ntp_at
+    /// [`SenderClock::ntp_at`]: codec_payload_session_stream::reports::SenderClock::ntp_at
     pub fn sender_clock(&self, ssrc: u32, payload_type: u8) -> Option<SenderClock>
         ensures { result ≡ clock_among (position (is_of ssrc payload_type) self.now.port.streams) self.now.port.streams }
     {

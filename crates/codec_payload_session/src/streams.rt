@@ -5,41 +5,44 @@ ghost use Rattle.std.specs.List.{position};
 ghost use Rattle.std.specs.Option.{is_some};
 ghost use Rattle.codec_payload_base.specs.Answers.{Finds};
 ghost use Rattle.codec_payload_rtcp.specs.RtcpReading.{compound_at, packets_left};
-ghost use Rattle.codec_payload_session.specs.Reports.{noted_where};
+ghost use Rattle.codec_payload_session_stream.specs.Reports.{noted_where};
 ghost use Rattle.codec_payload_session_formats.specs.Sorting.{sorted_packet, sorted_rtcp};
-ghost use Rattle.codec_payload_session.specs.Streams.{due_in, is_of, waiting_if, waiting_where};
-ghost use Rattle.codec_payload_session.specs.Turns.{StepsFirst, TakesTurn, after_step, told_by};
-ghost use Rattle.codec_payload_session.specs.Arrivals.{BeginsIf, BeginsOrFeeds, Feeds, TakesIn, TakesInAs, added, arrival_of, has_place, has_ssrc, includes, leaving, left_if, left_where, on_probation, removed, say_goodbye, TakesMedia};
+ghost use Rattle.codec_payload_session_stream.specs.Streams.{due_in, is_of, waiting_if, waiting_where};
+ghost use Rattle.codec_payload_session_stream.specs.Turns.{StepsFirst};
+ghost use Rattle.codec_payload_session.specs.Turns.{TakesTurn, after_step, told_by};
+ghost use Rattle.codec_payload_session.specs.Arrivals.{BeginsIf, BeginsOrFeeds, Feeds, TakesIn, TakesInAs, added, has_place, has_ssrc, includes, leaving, left_if, left_where, on_probation, removed, say_goodbye, TakesMedia};
+ghost use Rattle.codec_payload_session_stream.specs.Arrivals.{arrival_of};
 ghost use Rattle.codec_payload_session.specs.Ports.{ReportsIf, ReportsOn, everyone, no_port};
-ghost use Rattle.codec_payload_session.specs.declared.stream.Ending.TheVariants as endings;
-ghost use Rattle.codec_payload_session.specs.Pairs.{paired_where, with_pair};
+ghost use Rattle.codec_payload_session_stream.specs.declared.stream.Ending.TheVariants as endings;
+ghost use Rattle.codec_payload_session_stream.specs.Pairs.{paired_where, with_pair};
 ghost use Rattle.codec_payload_session_formats.specs.Checks.{can_begin, fault_of};
-ghost use Rattle.codec_payload_session.specs.Changes.{any_left_behind, continued, continues};
-ghost use Rattle.codec_payload_session.specs.Renegotiation.{StayOrEnd};
-ghost use Rattle.codec_payload_session.specs.Units.{event_to, turn_to};
-ghost use Rattle.codec_payload_session.specs.declared.stream.StreamState.{StreamState};
-ghost use Rattle.codec_payload_session.specs.Waking.{FeedsOne, StepsPort};
+ghost use Rattle.codec_payload_session_stream.specs.Changes.{any_left_behind, continued, continues};
+ghost use Rattle.codec_payload_session_stream.specs.Renegotiation.{StayOrEnd};
+ghost use Rattle.codec_payload_session_stream.specs.Units.{event_to, turn_to};
+ghost use Rattle.codec_payload_session_stream.specs.declared.stream.StreamState.{StreamState};
+ghost use Rattle.codec_payload_session.specs.Waking.{StepsPort};
 
-use crate::changes::{continues, leave_behind};
 use crate::compound::take_packets;
-use crate::dues::due_in;
-use crate::pairs::{pair, with_pair};
-use crate::renegotiation::leave_formats;
-use crate::session::{Arrival, Event};
-use crate::stream::{Ending, Step, StreamInfo, StreamState, is_no_memory, is_nothing};
-use crate::waking::{Waking, step_due, step_excepted};
 use codec_payload_base::wire::{Frequency, Ticks};
 use codec_payload_buffer::buffer::PoppedUnit;
 use codec_payload_datagrams::parsed::ParsedDatagram;
 use codec_payload_index::ssrcs::Ssrcs;
 use codec_payload_jitter::jitter::WaitLimits;
-use codec_payload_jitter::outcome::Outcome;
-use codec_payload_receiver::receiver::ReceiveError;
 use codec_payload_rtcp::compound::{CompoundRule, Packets, read_compound};
 use codec_payload_rtcp::items::ReportBlock;
 use codec_payload_rtp::rtp::PacketHeader;
 use codec_payload_session_formats::formats::{Format, SessionSettings, SsrcPair};
 use codec_payload_session_formats::sort::{SortedPacket, sort};
+use codec_payload_session_stream::arrival::{Arrival, arrival_of, feed_one};
+use codec_payload_session_stream::changes::{continues, leave_behind};
+use codec_payload_session_stream::dues::due_in;
+use codec_payload_session_stream::events::Event;
+use codec_payload_session_stream::pairs::{pair, with_pair};
+use codec_payload_session_stream::renegotiation::leave_formats;
+use codec_payload_session_stream::stream::{
+    Ending, Step, StreamInfo, StreamState, Turn, is_no_memory, is_nothing,
+};
+use codec_payload_session_stream::waking::{Waking, step_due, step_excepted};
 use std::alloc::{AllocError, Global};
 use std::marker::Model;
 
@@ -58,13 +61,6 @@ pub(crate) struct Streams {
     pub(crate) last: Option<StreamInfo>,
     /// When they may have their next events.
     pub(crate) waking: Waking,
-}
-
-/// The step of the stream at a place.
-#[derive(Debug, Drop)]
-pub(crate) struct Turn<U> {
-    pub(crate) place: usize,
-    pub(crate) step: Step<U>,
 }
 
 /// The streams to end.
@@ -568,43 +564,6 @@ impl Streams {
         self.finished = true;
         self.waking.forget();
         leave(&mut self.list, Who::All, Ending::Told, at);
-    }
-}
-
-/// Passes a datagram to the stream.
-#[inline(always)]
-fn feed_one(
-    stream: &mut StreamState,
-    probation: u64,
-    now: Ticks,
-    datagram: &ParsedDatagram<'_>,
-) -> Result<Arrival, AllocError>
-    ensures { FeedsOne probation now datagram.now stream.old result stream.new }
-{
-    let (ssrc, payload_type) = (stream.ssrc, stream.format.payload_type);
-    let answer = stream.take(now, probation, datagram);
-    if is_no_memory(&answer) {
-        return Err(AllocError);
-    }
-    Ok(arrival_of(ssrc, payload_type, answer))
-}
-
-/// Returns what was done with a datagram for which the stream has this answer.
-#[inline(always)]
-fn arrival_of(ssrc: u32, payload_type: u8, answer: Result<Outcome, ReceiveError>) -> Arrival
-    ensures { result ≡ arrival_of ssrc payload_type answer }
-{
-    match answer {
-        Ok(outcome) => Arrival::Stream {
-            ssrc,
-            payload_type,
-            outcome,
-        },
-        Err(fault) => Arrival::Faulty {
-            ssrc,
-            payload_type,
-            fault,
-        },
     }
 }
 

@@ -2,8 +2,8 @@
 use Rattle.std.proofs.Common.{◌≡◌, ◌∙◌, refl, sym, ap, subst, ℕ, ◌+◌, Bool, true, false, List, [], ◌∷◌, ◌++◌, append_assoc, append-nil, Option, arith}
 use Rattle.codec_payload_base.specs.declared.wire.Ticks.{Ticks}
 use Rattle.codec_payload_receiver.specs.Sessions.{Session as Receiver}
-use Rattle.codec_payload_session.specs.Units.{Event}
-use Rattle.codec_payload_session.specs.declared.session.Event.TheVariants as events
+use Rattle.codec_payload_session_stream.specs.Units.{Event}
+use Rattle.codec_payload_session_stream.specs.declared.events.Event.TheVariants as events
 use Rattle.codec_payload_session_runs.specs.Lives.{AreInOrder, AreMadeBy, AreOfOne, HasNoPair, IsMadeBy, IsPairFirst, IsPart, Projects, ReceiverCall, RunsAlone, events_in, events_of, finishes, follows, is_finish, is_pair, is_pop, is_shown, many_finishes, many_pops, one_more, pairs, pops, receives, reports, shown, shown_in, shown_of, waits, with_shown}
 use Rattle.codec_payload_session_runs.specs.SessionRuns.{Call}
 use Rattle.codec_payload_session_runs.specs.declared.run.SessionStep.TheVariants as steps

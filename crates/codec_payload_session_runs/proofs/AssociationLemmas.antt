@@ -12,19 +12,20 @@ use Rattle.codec_payload_rtp.specs.RtpReading.{rtp_at}
 use Rattle.codec_payload_rtp.specs.declared.rtp.RtpError.{RtpError}
 use Rattle.codec_payload_datagrams.specs.Kinds.{is_among}
 use Rattle.codec_payload_datagrams.specs.declared.kinds.Retransmission.{Retransmission}
-use Rattle.codec_payload_session.specs.Arrivals.{Arrives, Feeds, FeedsIf, Port, TakesIn, TakesInAs, arrival_of}
+use Rattle.codec_payload_session_stream.specs.Arrivals.{Arrives, arrival_of}
+use Rattle.codec_payload_session.specs.Arrivals.{Feeds, FeedsIf, Port, TakesIn, TakesInAs}
 use Rattle.codec_payload_session.specs.Associations.{owner_of, pair_at, pair_of, pair_with, unpaired_at, unpaired_by, unpaired_rtp}
 use Rattle.codec_payload_session_formats.specs.Formats.{has_type, resends, retransmission_for, retransmission_of, role_by, stream_of}
-use Rattle.codec_payload_session.specs.Pairs.{is_apart, paired_if, paired_when, paired_where, with_pair, without_pair}
+use Rattle.codec_payload_session_stream.specs.Pairs.{is_apart, paired_if, paired_when, paired_where, with_pair, without_pair}
 use Rattle.codec_payload_session_requests.specs.Requests.{original_number}
 use Rattle.codec_payload_session_formats.specs.Sorting.{sorted_at, sorted_by, sorted_retransmission, sorted_rtcp, sorted_rtp}
-use Rattle.codec_payload_session.specs.Streams.{Takes, is_no_memory, is_of}
+use Rattle.codec_payload_session_stream.specs.Streams.{Takes, is_no_memory, is_of}
 use Rattle.codec_payload_session_formats.specs.declared.formats.Format.{Format}
 use Rattle.codec_payload_session_formats.specs.declared.formats.SessionSettings.{SessionSettings}
 use Rattle.codec_payload_session_formats.specs.declared.formats.SsrcPair.{SsrcPair}
-use Rattle.codec_payload_session.specs.declared.session.Arrival.{Arrival}
-use Rattle.codec_payload_session.specs.declared.session.Arrival.TheVariants as arrivals
-use Rattle.codec_payload_session.specs.declared.stream.StreamState.{StreamState}
+use Rattle.codec_payload_session_stream.specs.declared.arrival.Arrival.{Arrival}
+use Rattle.codec_payload_session_stream.specs.declared.arrival.Arrival.TheVariants as arrivals
+use Rattle.codec_payload_session_stream.specs.declared.stream.StreamState.{StreamState}
 use Rattle.codec_payload_session_runs.proofs.CallLemmas.{IsAboutPair, NamesNone, given_other, paired_goes, pairs_evolve}
 use Rattle.codec_payload_session_runs.proofs.FateLemmas.{AreApart, Evolves, GoAll, absent_at, evolves_all, of_same, same_sym}
 use Rattle.codec_payload_session_runs.proofs.StreamLemmas.{Goes, call_of, paired_fed_goes}

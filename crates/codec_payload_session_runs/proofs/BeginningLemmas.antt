@@ -13,39 +13,40 @@ use Rattle.codec_payload_receiver.specs.declared.receiver.ReceiveError.{ReceiveE
 use Rattle.codec_payload_rtcp.specs.RtcpPackets.{Packet}
 use Rattle.codec_payload_rtcp.specs.RtcpReading.{compound_at}
 use Rattle.codec_payload_rtcp.specs.declared.packet.RtcpError.{RtcpError}
+use Rattle.codec_payload_rtp.specs.RtpReading.{rtp_at}
 use Rattle.codec_payload_session.specs.Keyframes.{asked_among, asked_with}
 use Rattle.codec_payload_session.specs.Accepting.{Accepts, noted_in, time_for}
-use Rattle.codec_payload_session.specs.Arrivals.{Arrives, BeginsIf, BeginsOrFeeds, BeginsWith, Feeds, FeedsIf, Port, TakesInAs, TakesMedia, arrival_of, goodbye_at, has_place, left_if, left_where, on_probation, without, has_ssrc}
+use Rattle.codec_payload_session_stream.specs.Arrivals.{Arrives, arrival_of}
+use Rattle.codec_payload_session.specs.Arrivals.{BeginsIf, BeginsOrFeeds, BeginsWith, Feeds, FeedsIf, Port, TakesInAs, TakesMedia, goodbye_at, has_place, left_if, left_where, on_probation, without, has_ssrc}
 use Rattle.codec_payload_session.specs.Associations.{AssociatesBy, pair_at}
-use Rattle.codec_payload_session.specs.Changes.{continued, continues, is_left_behind}
-use Rattle.codec_payload_session.specs.Pairs.{Pairs, paired_if, paired_where, with_pair}
+use Rattle.codec_payload_session_stream.specs.Changes.{continued, continues, is_left_behind}
+use Rattle.codec_payload_session.specs.Pairs.{Pairs}
+use Rattle.codec_payload_session_stream.specs.Pairs.{paired_if, paired_where, with_pair}
 use Rattle.codec_payload_session.specs.Polls.{GoesOn, PollsAfter, SendsAfter}
-use Rattle.codec_payload_session.specs.Ports.{Receives, Session, everyone}
-use Rattle.codec_payload_session.specs.Ports.{ReportsIf as ReportsPlace}
-use Rattle.codec_payload_session.specs.Reporting.{all_reported, is_chosen, reported_if, room_after}
-use Rattle.codec_payload_session.specs.Reports.{noted, noted_at, reported_by}
-use Rattle.codec_payload_session.specs.Reports.{noted_in as clocks_in}
+use Rattle.codec_payload_session.specs.Ports.{Receives, Session, everyone, ReportsIf as ReportsPlace}
+use Rattle.codec_payload_session.specs.Reporting.{all_reported, is_chosen, room_after}
+use Rattle.codec_payload_session_stream.specs.Reports.{reported_if, noted, noted_at, reported_by, noted_in as clocks_in}
 use Rattle.codec_payload_session_formats.specs.Sorting.{Sorted, sorted_at}
 use Rattle.codec_payload_session_formats.specs.Sorting as sorted
-use Rattle.codec_payload_session.specs.Streams.{Takes, accepted_after, heard_unless, is_accepted, is_no_memory, is_of, is_probation, late_followed, left_when, received, stage_after, waiting_if, asked_for, asked_unless, is_ending}
-use Rattle.codec_payload_session.specs.Turns.{AreQuiet, TakesTurn, kept_after}
-use Rattle.codec_payload_session.specs.Units.{Event}
+use Rattle.codec_payload_session_stream.specs.Streams.{Takes, accepted_after, heard_unless, is_accepted, is_no_memory, is_of, is_probation, late_followed, left_when, payload_size, received, stage_after, waiting_if, asked_for, asked_unless, is_ending}
+use Rattle.codec_payload_session_stream.specs.Turns.{AreQuiet}
+use Rattle.codec_payload_session.specs.Turns.{TakesTurn, kept_after}
+use Rattle.codec_payload_session_stream.specs.Units.{Event}
 use Rattle.codec_payload_session_formats.specs.declared.formats.Format.{Format}
 use Rattle.codec_payload_session_formats.specs.declared.formats.SessionSettings.{SessionSettings}
 use Rattle.codec_payload_session_formats.specs.declared.formats.SsrcPair.{SsrcPair}
-use Rattle.codec_payload_session.specs.declared.session.Arrival.{Arrival}
-use Rattle.codec_payload_session.specs.declared.session.Arrival.TheVariants as arrivals
-use Rattle.codec_payload_session.specs.declared.session.Event.TheVariants as events
-use Rattle.codec_payload_session.specs.declared.stream.Ending.{Ending}
-use Rattle.codec_payload_session.specs.declared.stream.Ending.TheVariants as endings
-use Rattle.codec_payload_session.specs.declared.stream.Stage.{Stage}
-use Rattle.codec_payload_session.specs.declared.stream.Stage.TheVariants as stages
-use Rattle.codec_payload_session.specs.declared.stream.StreamState.{StreamState}
+use Rattle.codec_payload_session_stream.specs.declared.arrival.Arrival.{Arrival}
+use Rattle.codec_payload_session_stream.specs.declared.arrival.Arrival.TheVariants as arrivals
+use Rattle.codec_payload_session_stream.specs.declared.events.Event.TheVariants as events
+use Rattle.codec_payload_session_stream.specs.declared.stream.Ending.{Ending}
+use Rattle.codec_payload_session_stream.specs.declared.stream.Ending.TheVariants as endings
+use Rattle.codec_payload_session_stream.specs.declared.stream.Stage.{Stage}
+use Rattle.codec_payload_session_stream.specs.declared.stream.Stage.TheVariants as stages
+use Rattle.codec_payload_session_stream.specs.declared.stream.StreamState.{StreamState}
 use Rattle.codec_payload_session_runs.proofs.EndingCallLemmas.{apart_paired, both_same, paired_same, reported_same, waited_same}
 use Rattle.codec_payload_session_runs.proofs.EndingLemmas.{Same, steps_asked}
 use Rattle.codec_payload_session_runs.proofs.FateLemmas.{AreApart, found_none, of_is, of_same}
-use Rattle.codec_payload_session_runs.proofs.ReachedLemmas.{Reached, by_streams, reached, reached_more}
-use Rattle.codec_payload_session_runs.proofs.ReachedLemmas.{Same as SameOrReported}
+use Rattle.codec_payload_session_runs.proofs.ReachedLemmas.{Reached, by_streams, reached, reached_more, Same as SameOrReported}
 use Rattle.codec_payload_session_runs.proofs.StreamLemmas.{Kind, keeps_left, steps_stepped}
 use Rattle.codec_payload_session_runs.specs.Endings.{HasBegun, HasRoom, NoEnd, RunsWithRoom, TwoDatagramsBegin, accepted_as, ends_it, is_accepted_by, is_end_of}
 use Rattle.codec_payload_session_runs.specs.Lives.{IsAbsent, events_by, is_same, one_event}
@@ -182,23 +183,23 @@ stage_past probation n stages.Playing most = refl
 stage_past probation n (stages.Leaving why at) most = refl
 stage_past probation n (stages.Draining why) most = refl
 
-by_took : (b accepted : Bool) (now probation : ℕ) (told : Result Outcome ReceiveError) (x z : StreamState) → is_no_memory told ≡ b → is_accepted told ≡ accepted → Same x z → Took probation told x (heard_unless b now probation accepted z)
-by_took true true now probation told x z memory is same = absurd (no_both told memory is)
+by_took : (b accepted : Bool) (now probation size : ℕ) (told : Result Outcome ReceiveError) (x z : StreamState) → is_no_memory told ≡ b → is_accepted told ≡ accepted → Same x z → Took probation told x (heard_unless b now probation accepted size z)
+by_took true true now probation size told x z memory is same = absurd (no_both told memory is)
   where
     no_both : (o : Result Outcome ReceiveError) → is_no_memory o ≡ true → is_accepted o ≡ true → ⊥
     no_both (Ok outcome) memory is = absurd (cc)
     no_both (Err e) memory is = absurd (cc)
-by_took true false now probation told x z memory is same = record {
+by_took true false now probation size told x z memory is same = record {
   kept = same_kept x z same;
   one = λ was. let no : false ≡ true = sym is ∙ was in absurd (cc);
   past = λ was small one. let no : false ≡ true = sym is ∙ was in absurd (cc);
 }
-by_took false true now probation told x z memory is same = record {
+by_took false true now probation size told x z memory is same = record {
   kept = record { ssrc_is = same.ssrc_is; format = same.format; some = λ one. omega (arith) };
   one = λ was. omega (arith);
   past = λ was small one. stage_past probation (accepted_after true z.accepted) z.stage (omega (arith, small, one, same.accepted));
 }
-by_took false false now probation told x z memory is same = record {
+by_took false false now probation size told x z memory is same = record {
   kept = record { ssrc_is = same.ssrc_is; format = same.format; some = λ one. omega (arith, one, same.accepted) };
   one = λ was. let no : false ≡ true = sym is ∙ was in absurd (cc);
   past = λ was small one. let no : false ≡ true = sym is ∙ was in absurd (cc);
@@ -207,7 +208,7 @@ by_took false false now probation told x z memory is same = record {
 took : (now : Ticks) (datagram : Vec ℕ) (probation : ℕ) (x : StreamState) (told : Result Outcome ReceiveError) (y : StreamState) → Takes now probation datagram.items x told y → Took probation told x y
 took now datagram probation x told y got =
     subst (λ (z : StreamState). Took probation told x z) (sym got.2)
-    (by_took (is_no_memory told) (is_accepted told) now.0 probation told x (late_followed (is_ok told) now.0 datagram.items (received now.0 datagram.items (is_accepted told) got.0 x)) refl refl
+    (by_took (is_no_memory told) (is_accepted told) now.0 probation (payload_size (rtp_at datagram.items)) told x (late_followed (is_ok told) now.0 datagram.items (received now.0 datagram.items (is_accepted told) got.0 x)) refl refl
     (both_same (is_ok told) (is_accepted told) now.0 datagram.items got.0 x))
 
 -- an answer that says that the stream accepted the datagram

@@ -19,26 +19,28 @@ use Rattle.codec_payload_datagrams.specs.Kinds.{is_among}
 use Rattle.codec_payload_receiver.specs.declared.receiver.ReceiveError.{ReceiveError}
 use Rattle.codec_payload_session.specs.Keyframes.{asked_among, asked_with}
 use Rattle.codec_payload_session_requests.specs.declared.requests.KeyframeAnswer.{KeyframeAnswer}
-use Rattle.codec_payload_session.specs.Arrivals.{Arrives, BeginsIf, BeginsOrFeeds, BeginsWith, Feeds, FeedsIf, Port, TakesIn, TakesInAs, TakesMedia, arrival_of, goodbye_at, has_place, has_ssrc, left_if, on_probation, without}
-use Rattle.codec_payload_session.specs.Changes.{continued, continues, is_left_behind, left_behind}
-use Rattle.codec_payload_session.specs.Pairs.{paired_if, paired_when}
+use Rattle.codec_payload_session_stream.specs.Arrivals.{Arrives, arrival_of}
+use Rattle.codec_payload_session.specs.Arrivals.{BeginsIf, BeginsOrFeeds, BeginsWith, Feeds, FeedsIf, Port, TakesIn, TakesInAs, TakesMedia, goodbye_at, has_place, has_ssrc, left_if, on_probation, without}
+use Rattle.codec_payload_session_stream.specs.Changes.{continued, continues, is_left_behind, left_behind}
+use Rattle.codec_payload_session_stream.specs.Pairs.{paired_if, paired_when}
 use Rattle.codec_payload_session.specs.Ports.{ReportsIf}
-use Rattle.codec_payload_session.specs.Reporting.{all_reported, is_chosen, reported_if, room_after}
-use Rattle.codec_payload_session.specs.Reports.{noted, noted_at, noted_in, reported_by}
+use Rattle.codec_payload_session.specs.Reporting.{all_reported, is_chosen, room_after}
+use Rattle.codec_payload_session_stream.specs.Reports.{reported_if, noted, noted_at, noted_in, reported_by}
 use Rattle.codec_payload_session_formats.specs.Formats.{has_type, resends, retransmission_for, role_by, stream_of}
 use Rattle.codec_payload_session_formats.specs.Sorting.{sorted_by, sorted_retransmission, sorted_rtcp, sorted_rtp}
-use Rattle.codec_payload_session.specs.Streams.{Begins, is_no_memory, is_of, is_probation, waiting_if, waiting_when, asked_for, asked_unless, is_ending}
-use Rattle.codec_payload_session.specs.Turns.{AreQuiet, TakesTurn, kept_after}
+use Rattle.codec_payload_session_stream.specs.Streams.{Begins, is_no_memory, is_of, is_probation, waiting_if, waiting_when, asked_for, asked_unless, is_ending}
+use Rattle.codec_payload_session_stream.specs.Turns.{AreQuiet}
+use Rattle.codec_payload_session.specs.Turns.{TakesTurn, kept_after}
 use Rattle.codec_payload_session_formats.specs.declared.formats.Format.{Format}
 use Rattle.codec_payload_session_formats.specs.declared.formats.SessionSettings.{SessionSettings}
 use Rattle.codec_payload_session_formats.specs.declared.formats.SsrcPair.{SsrcPair}
-use Rattle.codec_payload_session.specs.declared.session.Arrival.{Arrival}
-use Rattle.codec_payload_session.specs.declared.session.Arrival.TheVariants as arrivals
-use Rattle.codec_payload_session.specs.Units.{Event}
-use Rattle.codec_payload_session.specs.declared.session.Event.TheVariants as events
-use Rattle.codec_payload_session.specs.declared.stream.Ending.{Ending}
-use Rattle.codec_payload_session.specs.declared.stream.Ending.TheVariants as endings
-use Rattle.codec_payload_session.specs.declared.stream.StreamState.{StreamState}
+use Rattle.codec_payload_session_stream.specs.declared.arrival.Arrival.{Arrival}
+use Rattle.codec_payload_session_stream.specs.declared.arrival.Arrival.TheVariants as arrivals
+use Rattle.codec_payload_session_stream.specs.Units.{Event}
+use Rattle.codec_payload_session_stream.specs.declared.events.Event.TheVariants as events
+use Rattle.codec_payload_session_stream.specs.declared.stream.Ending.{Ending}
+use Rattle.codec_payload_session_stream.specs.declared.stream.Ending.TheVariants as endings
+use Rattle.codec_payload_session_stream.specs.declared.stream.StreamState.{StreamState}
 use Rattle.codec_payload_session_runs.proofs.AloneLemmas.{finishes_append, made_append, poll_of, polled_first, pops_append, runs_append, shown_append}
 use Rattle.codec_payload_session_runs.proofs.FateLemmas.{AreApart, AreFates, AreKnown, BeginsNow, Evolves, GoAll, IsFate, IsSilent, ShowsNothing, absent_middle, all_fates, all_stay, evolves_all, evolves_map, evolves_same, fates_append, found_none, mapped_all, one_goes, others_go, present, present_all, present_append, same_sym}
 use Rattle.codec_payload_session_runs.proofs.StreamLemmas.{Goes, HasPart, IsKnown, Keeps, Kind, Stepped, call_of, fed_goes, given_arrival, given_is, keeps_left, silent_goes, steps_stepped}

@@ -15,9 +15,9 @@ use Rattle.codec_payload_session.specs.Polls.{GoesOn, PollsAfter, SendsAfter, Tu
 use Rattle.codec_payload_session.specs.Ports.{IsSum, Receives, Session, counted as counted_as, new_session, told_counts}
 use Rattle.codec_payload_session_formats.specs.declared.formats.SessionSettings.{SessionSettings}
 use Rattle.codec_payload_session_formats.specs.declared.formats.SsrcPair.{SsrcPair}
-use Rattle.codec_payload_session.specs.declared.session.Arrival.{Arrival}
-use Rattle.codec_payload_session.specs.declared.session.Arrival.TheVariants as arrivals
-use Rattle.codec_payload_session.specs.Units.{Event}
+use Rattle.codec_payload_session_stream.specs.declared.arrival.Arrival.{Arrival}
+use Rattle.codec_payload_session_stream.specs.declared.arrival.Arrival.TheVariants as arrivals
+use Rattle.codec_payload_session_stream.specs.Units.{Event}
 use Rattle.codec_payload_session.specs.declared.session.SessionCounts.{SessionCounts}
 use Rattle.codec_payload_session_runs.specs.Counting.{Counts, answered_with, is_any, is_malformed, is_refused, is_rtcp, is_taken, is_unassociated, is_unknown, many, one_if}
 use Rattle.codec_payload_session_runs.specs.SessionRuns.{AddsPair, Call, Does, Runs}

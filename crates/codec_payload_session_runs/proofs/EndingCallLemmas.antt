@@ -15,44 +15,46 @@ use Rattle.codec_payload_receiver.specs.declared.receiver.ReceiveError.{ReceiveE
 use Rattle.codec_payload_rtcp.specs.RtcpPackets.{Packet}
 use Rattle.codec_payload_rtcp.specs.RtcpReading.{compound_at}
 use Rattle.codec_payload_rtcp.specs.declared.packet.RtcpError.{RtcpError}
+use Rattle.codec_payload_rtp.specs.RtpReading.{rtp_at}
 use Rattle.codec_payload_session_requests.specs.Late.{limit_by}
 use Rattle.codec_payload_session.specs.Keyframes.{asked_among, asked_with}
 use Rattle.codec_payload_session.specs.Accepting.{Accepts, noted_in, time_for}
-use Rattle.codec_payload_session.specs.Arrivals.{Arrives, BeginsIf, BeginsOrFeeds, BeginsWith, Feeds, FeedsIf, Port, TakesInAs, TakesMedia, arrival_of, goodbye_at, has_place, leaving, left_where, without, has_ssrc}
+use Rattle.codec_payload_session_stream.specs.Arrivals.{Arrives, arrival_of}
+use Rattle.codec_payload_session.specs.Arrivals.{BeginsIf, BeginsOrFeeds, BeginsWith, Feeds, FeedsIf, Port, TakesInAs, TakesMedia, goodbye_at, has_place, leaving, left_where, without, has_ssrc}
 use Rattle.codec_payload_session.specs.Associations.{AssociatesBy, pair_at}
-use Rattle.codec_payload_session.specs.Changes.{continued, continues, is_left_behind, is_playing, plays, takes_turns}
-use Rattle.codec_payload_session.specs.Pairs.{Pairs, paired_if, paired_when, paired_where, with_pair}
-use Rattle.codec_payload_session.specs.Polls.{GoesOn, PollsAfter, SendsAfter, TurnsOrReports, report_event, transport_event}
-use Rattle.codec_payload_session.specs.Ports.{Receives, Session, everyone, new_session}
-use Rattle.codec_payload_session.specs.Ports.{ReportsIf as ReportsPlace}
-use Rattle.codec_payload_session.specs.Reporting.{all_reported, is_chosen, reported_if, room_after}
-use Rattle.codec_payload_session.specs.Reports.{noted, noted_at, reported_by}
-use Rattle.codec_payload_session.specs.Reports.{noted_in as clocks_in}
+use Rattle.codec_payload_session_stream.specs.Changes.{continued, continues, is_left_behind, is_playing, plays, takes_turns}
+use Rattle.codec_payload_session.specs.Pairs.{Pairs}
+use Rattle.codec_payload_session_stream.specs.Pairs.{paired_if, paired_when, paired_where, with_pair}
+use Rattle.codec_payload_session.specs.Polls.{GoesOn, PollsAfter, SendsAfter, TurnsOrReports}
+use Rattle.codec_payload_session_stream.specs.Events.{report_event, transport_event}
+use Rattle.codec_payload_session.specs.Ports.{Receives, Session, everyone, new_session, ReportsIf as ReportsPlace}
+use Rattle.codec_payload_session.specs.Reporting.{all_reported, is_chosen, room_after}
+use Rattle.codec_payload_session_stream.specs.Reports.{reported_if, noted, noted_at, reported_by, noted_in as clocks_in}
 use Rattle.codec_payload_session_formats.specs.Names.{names_after}
 use Rattle.codec_payload_session_requests.specs.Requests.{heard_by, number_at, wait_by}
 use Rattle.codec_payload_session_formats.specs.Sorting.{Sorted, sorted_at}
 use Rattle.codec_payload_session_formats.specs.Sorting as sorted
-use Rattle.codec_payload_session.specs.Streams.{Takes, accepted_after, heard_unless, is_accepted, is_no_memory, is_of, late_followed, late_noted, received, stage_after, waiting_for, waiting_if, waiting_when, asked_for, asked_unless, is_ending}
-use Rattle.codec_payload_session.specs.Telephone.{event_of as telephone_event}
-use Rattle.codec_payload_session.specs.Turns.{AreQuiet, TakesTurn, event_of, kept_after}
-use Rattle.codec_payload_session.specs.Units.{Event, Step}
+use Rattle.codec_payload_session_stream.specs.Streams.{Takes, accepted_after, heard_unless, is_accepted, is_no_memory, is_of, late_followed, late_noted, payload_size, received, stage_after, waiting_for, waiting_if, waiting_when, asked_for, asked_unless, is_ending}
+use Rattle.codec_payload_session_stream.specs.Telephone.{event_of as telephone_event}
+use Rattle.codec_payload_session_stream.specs.Turns.{AreQuiet, event_of}
+use Rattle.codec_payload_session.specs.Turns.{TakesTurn, kept_after}
+use Rattle.codec_payload_session_stream.specs.Units.{Event, Step}
 use Rattle.codec_payload_session_formats.specs.declared.formats.Format.{Format}
 use Rattle.codec_payload_session_formats.specs.declared.formats.SessionSettings.{SessionSettings}
 use Rattle.codec_payload_session_formats.specs.declared.formats.SsrcPair.{SsrcPair}
-use Rattle.codec_payload_session.specs.declared.session.Arrival.{Arrival}
-use Rattle.codec_payload_session.specs.declared.session.Arrival.TheVariants as arrivals
-use Rattle.codec_payload_session.specs.declared.session.Event.TheVariants as events
-use Rattle.codec_payload_session.specs.declared.stream.Ending.{Ending}
-use Rattle.codec_payload_session.specs.declared.stream.Ending.TheVariants as endings
-use Rattle.codec_payload_session.specs.declared.stream.Stage.{Stage}
-use Rattle.codec_payload_session.specs.declared.stream.Stage.TheVariants as stages
-use Rattle.codec_payload_session.specs.declared.stream.StreamState.{StreamState}
+use Rattle.codec_payload_session_stream.specs.declared.arrival.Arrival.{Arrival}
+use Rattle.codec_payload_session_stream.specs.declared.arrival.Arrival.TheVariants as arrivals
+use Rattle.codec_payload_session_stream.specs.declared.events.Event.TheVariants as events
+use Rattle.codec_payload_session_stream.specs.declared.stream.Ending.{Ending}
+use Rattle.codec_payload_session_stream.specs.declared.stream.Ending.TheVariants as endings
+use Rattle.codec_payload_session_stream.specs.declared.stream.Stage.{Stage}
+use Rattle.codec_payload_session_stream.specs.declared.stream.Stage.TheVariants as stages
+use Rattle.codec_payload_session_stream.specs.declared.stream.StreamState.{StreamState}
 use Rattle.codec_payload_session_runs.proofs.AloneLemmas.{poll_of}
 use Rattle.codec_payload_session_runs.proofs.EndingLemmas.{began_more, AllJustified, AllMoved, Asked, Justified, Moved, Reason, Same, all_left, all_more, all_silent, cause_more, ending_of, itself, justified_append, justified_more, justified_parts, justified_remove, justified_same, moved_same, one_moved, others_moved, same_justified, steps_asked}
 use Rattle.codec_payload_session_runs.proofs.CallLemmas.{at_place}
 use Rattle.codec_payload_session_runs.proofs.FateLemmas.{AreApart, found_none, of_is, number_sym}
-use Rattle.codec_payload_session_runs.proofs.ReachedLemmas.{Reached, by_streams, reached, reached_more, reached_new, runs_split}
-use Rattle.codec_payload_session_runs.proofs.ReachedLemmas.{Same as SameOrReported}
+use Rattle.codec_payload_session_runs.proofs.ReachedLemmas.{Reached, by_streams, reached, reached_more, reached_new, runs_split, Same as SameOrReported}
 use Rattle.codec_payload_session_runs.proofs.StreamLemmas.{IsOwn, Kind, call_of, given_is, same_is, steps_stepped}
 use Rattle.codec_payload_session_runs.specs.Endings.{BeganWith, EndsHaveCauses, HasCause, IsCause, last_given, names_other, or_before, time_given, time_named}
 use Rattle.codec_payload_session_runs.specs.Lives.{IsAbsent, StartsWithDatagram, ending_poll, is_same, one_event}
@@ -126,12 +128,12 @@ record Fed (now : Ticks) (micros : Option ℕ) (datagram : Vec ℕ) (answer : Re
   last : or_before (time_given x.ssrc x.format.payload_type (call_of now micros datagram answer)) (Some x.last) ≡ Some y.last
   ends : (why : Ending) → ending_of y.stage ≡ Some why → ending_of x.stage ≡ Some why
 
-by_memory : (b : Bool) (now : Ticks) (micros : Option ℕ) (datagram : Vec ℕ) (probation : ℕ) (accepted : Bool) (x z : StreamState) (told : Result Outcome ReceiveError) (answer : Result Arrival AllocError)
-    → Arrives b (arrival_of x.ssrc x.format.payload_type told) answer → Same x z → Fed now micros datagram answer x (heard_unless b now.0 probation accepted z)
-by_memory true now micros datagram probation accepted x z told (Ok arrival) is same = absurd (cc)
-by_memory true now micros datagram probation accepted x z told (Err e) is same =
+by_memory : (b : Bool) (now : Ticks) (micros : Option ℕ) (datagram : Vec ℕ) (probation : ℕ) (accepted : Bool) (size : ℕ) (x z : StreamState) (told : Result Outcome ReceiveError) (answer : Result Arrival AllocError)
+    → Arrives b (arrival_of x.ssrc x.format.payload_type told) answer → Same x z → Fed now micros datagram answer x (heard_unless b now.0 probation accepted size z)
+by_memory true now micros datagram probation accepted size x z told (Ok arrival) is same = absurd (cc)
+by_memory true now micros datagram probation accepted size x z told (Err e) is same =
     record { ssrc_is = same.ssrc_is; format = same.format; last = ap (λ (n : ℕ). Some n) (sym same.last); ends = λ why e. ap (λ (st : Stage). ending_of st) (sym same.stage) ∙ e }
-by_memory false now micros datagram probation accepted x z told answer is same = record {
+by_memory false now micros datagram probation accepted size x z told answer is same = record {
   ssrc_is = same.ssrc_is;
   format = same.format;
   last = ap (λ (o : Option ℕ). or_before o (Some x.last)) (time_own x.ssrc x.format.payload_type now.0 told answer is);
@@ -142,7 +144,7 @@ fed : (now : Ticks) (micros : Option ℕ) (datagram : Vec ℕ) (probation : ℕ)
     → Takes now probation datagram.items x told y → Arrives (is_no_memory told) (arrival_of x.ssrc x.format.payload_type told) answer → Fed now micros datagram answer x y
 fed now micros datagram probation x told y answer got arrives =
     subst (λ (z : StreamState). Fed now micros datagram answer x z) (sym got.2)
-    (by_memory (is_no_memory told) now micros datagram probation (is_accepted told) x (late_followed (is_ok told) now.0 datagram.items (received now.0 datagram.items (is_accepted told) got.0 x)) told answer arrives
+    (by_memory (is_no_memory told) now micros datagram probation (is_accepted told) (payload_size (rtp_at datagram.items)) x (late_followed (is_ok told) now.0 datagram.items (received now.0 datagram.items (is_accepted told) got.0 x)) told answer arrives
     (both_same (is_ok told) (is_accepted told) now.0 datagram.items got.0 x))
 
 -- ---- calls that give no stream a datagram

@@ -8,17 +8,17 @@ use Rattle.codec_payload_metadata.specs.Release.{Release}
 use Rattle.codec_payload_receiver.specs.declared.pops.Popped.{Popped}
 use Rattle.codec_payload_receiver.specs.declared.pops.Popped.TheVariants as popped
 use Rattle.codec_payload_session_requests.specs.Requests.{Asking, answered_if}
-use Rattle.codec_payload_session.specs.Streams.{Drains, Follows, Plays, RequestsBy, RestsBy, Steps, StepsBy, end_by, end_of, is_keyframe, is_probation, left_when, stage_left, step_of, step_with}
+use Rattle.codec_payload_session_stream.specs.Streams.{Drains, Follows, Plays, RequestsBy, RestsBy, Steps, StepsBy, end_by, end_of, is_keyframe, is_probation, left_when, stage_left, step_of, step_with}
 use Rattle.codec_payload_session_formats.specs.declared.formats.Format.{Format}
 use Rattle.codec_payload_session_formats.specs.declared.formats.SessionSettings.{SessionSettings}
-use Rattle.codec_payload_session.specs.declared.stream.Ending.{Ending}
-use Rattle.codec_payload_session.specs.declared.stream.Ending.TheVariants as endings
-use Rattle.codec_payload_session.specs.declared.stream.Stage.{Stage}
-use Rattle.codec_payload_session.specs.declared.stream.Stage.TheVariants as stages
-use Rattle.codec_payload_session.specs.declared.stream.StreamState.{StreamState}
-use Rattle.codec_payload_session.specs.Turns.{event_of}
-use Rattle.codec_payload_session.specs.Units.{Event, Step}
-use Rattle.codec_payload_session.specs.declared.session.Event.TheVariants as events
+use Rattle.codec_payload_session_stream.specs.declared.stream.Ending.{Ending}
+use Rattle.codec_payload_session_stream.specs.declared.stream.Ending.TheVariants as endings
+use Rattle.codec_payload_session_stream.specs.declared.stream.Stage.{Stage}
+use Rattle.codec_payload_session_stream.specs.declared.stream.Stage.TheVariants as stages
+use Rattle.codec_payload_session_stream.specs.declared.stream.StreamState.{StreamState}
+use Rattle.codec_payload_session_stream.specs.Turns.{event_of}
+use Rattle.codec_payload_session_stream.specs.Units.{Event, Step}
+use Rattle.codec_payload_session_stream.specs.declared.events.Event.TheVariants as events
 use Rattle.codec_payload_session_runs.proofs.FateLemmas.{AreApart, absent_at, same_sym}
 use Rattle.codec_payload_session_runs.proofs.ReachedLemmas.{starts_more}
 use Rattle.codec_payload_session_runs.specs.Endings.{BeganWith, HasCause, IsCause, last_given, or_before, time_given}

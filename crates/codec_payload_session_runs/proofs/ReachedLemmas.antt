@@ -8,22 +8,24 @@ use Rattle.codec_payload_session.specs.Keyframes.{answer_among}
 use Rattle.codec_payload_session.specs.Arrivals.{Port, has_ssrc}
 use Rattle.codec_payload_session.specs.Accepting.{Accepts, noted_in, time_for}
 use Rattle.codec_payload_session.specs.Associations.{AssociatesBy, pair_at}
-use Rattle.codec_payload_session.specs.Pairs.{Pairs, paired_where, with_pair}
-use Rattle.codec_payload_session.specs.Polls.{GoesOn, PollsAfter, SendsAfter, SendsTransport, TurnsOrReports, report_event, transport_event}
+use Rattle.codec_payload_session.specs.Pairs.{Pairs}
+use Rattle.codec_payload_session_stream.specs.Pairs.{paired_where, with_pair}
+use Rattle.codec_payload_session.specs.Polls.{GoesOn, PollsAfter, SendsAfter, SendsTransport, TurnsOrReports}
+use Rattle.codec_payload_session_stream.specs.Events.{report_event, transport_event}
 use Rattle.codec_payload_session.specs.Ports.{Receives, Session, everyone, new_session}
-use Rattle.codec_payload_session.specs.Reporting.{ReportsBy, ReportsEach, Reports, all_reported, is_new_round, is_report_due, most_blocks}
-use Rattle.codec_payload_session.specs.Reporting.{ReportsIf as ReportsWhen}
-use Rattle.codec_payload_session.specs.Streams.{is_of}
-use Rattle.codec_payload_session.specs.Turns.{AreQuiet, TakesTurn}
+use Rattle.codec_payload_session.specs.Reporting.{ReportsBy, ReportsEach, Reports, all_reported, is_new_round, is_report_due, most_blocks, ReportsIf as ReportsWhen}
+use Rattle.codec_payload_session_stream.specs.Streams.{is_of}
+use Rattle.codec_payload_session_stream.specs.Turns.{AreQuiet}
+use Rattle.codec_payload_session.specs.Turns.{TakesTurn}
 use Rattle.codec_payload_session_formats.specs.declared.formats.FeedbackSettings.{FeedbackSettings}
 use Rattle.codec_payload_session_formats.specs.declared.formats.Format.{Format}
 use Rattle.codec_payload_session_formats.specs.declared.formats.SessionSettings.{SessionSettings}
 use Rattle.codec_payload_session_formats.specs.declared.formats.SsrcPair.{SsrcPair}
-use Rattle.codec_payload_session.specs.declared.session.Arrival.{Arrival}
-use Rattle.codec_payload_session.specs.Units.{Event}
-use Rattle.codec_payload_session.specs.declared.session.Event.TheVariants as events
-use Rattle.codec_payload_session.specs.declared.stream.Ending.{Ending}
-use Rattle.codec_payload_session.specs.declared.stream.StreamState.{StreamState}
+use Rattle.codec_payload_session_stream.specs.declared.arrival.Arrival.{Arrival}
+use Rattle.codec_payload_session_stream.specs.Units.{Event}
+use Rattle.codec_payload_session_stream.specs.declared.events.Event.TheVariants as events
+use Rattle.codec_payload_session_stream.specs.declared.stream.Ending.{Ending}
+use Rattle.codec_payload_session_stream.specs.declared.stream.StreamState.{StreamState}
 use Rattle.codec_payload_session_runs.proofs.AloneLemmas.{events_more, one_append, order_append, projects_more, projects_shown, runs_append}
 use Rattle.codec_payload_session_runs.proofs.AssociationLemmas.{IsFound, added_pair, failed_paired, found_pair, paired_evolves, removed_pair}
 use Rattle.codec_payload_session_runs.proofs.CallLemmas.{end_evolves, failed_evolves, finish_evolves, pairs_evolve, quiet_evolves, receive_evolves, report_evolves, reported_evolves, tells_evolve, waits_evolve, keyframe_evolves}

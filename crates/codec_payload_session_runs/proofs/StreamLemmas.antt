@@ -11,23 +11,25 @@ use Rattle.codec_payload_receiver.specs.Sessions.{Session as Receiver}
 use Rattle.codec_payload_receiver.specs.declared.pops.Popped.{Popped}
 use Rattle.codec_payload_receiver.specs.declared.pops.Popped.TheVariants as popped
 use Rattle.codec_payload_receiver.specs.declared.receiver.ReceiveError.{ReceiveError}
-use Rattle.codec_payload_session.specs.Arrivals.{Arrives, arrival_of}
+use Rattle.codec_payload_rtp.specs.RtpReading.{rtp_at}
+use Rattle.codec_payload_session_stream.specs.Arrivals.{Arrives, arrival_of}
 use Rattle.codec_payload_session_formats.specs.Formats.{retransmission_for}
 use Rattle.codec_payload_session_requests.specs.Late.{limit_by}
-use Rattle.codec_payload_session.specs.Pairs.{paired, paired_when}
+use Rattle.codec_payload_session_stream.specs.Pairs.{paired, paired_when}
 use Rattle.codec_payload_session_formats.specs.Names.{names_after}
 use Rattle.codec_payload_session_requests.specs.Requests.{Asking, answered_if, heard_by, number_at, wait_by}
-use Rattle.codec_payload_session.specs.Streams.{Drains, Follows, Plays, RequestsBy, RestsBy, Steps, StepsBy, Takes, accepted_after, end_of, heard_unless, is_accepted, is_keyframe, is_no_memory, is_probation, late_followed, late_noted, left_when, received, stage_after, stage_left, step_of, step_with, waiting_for}
-use Rattle.codec_payload_session.specs.Turns.{event_of, kept_after}
+use Rattle.codec_payload_session_stream.specs.Streams.{Drains, Follows, Plays, RequestsBy, RestsBy, Steps, StepsBy, Takes, accepted_after, end_of, heard_unless, is_accepted, is_keyframe, is_no_memory, is_probation, late_followed, late_noted, left_when, payload_size, received, stage_after, stage_left, step_of, step_with, waiting_for}
+use Rattle.codec_payload_session_stream.specs.Turns.{event_of}
+use Rattle.codec_payload_session.specs.Turns.{kept_after}
 use Rattle.codec_payload_session_formats.specs.declared.formats.Format.{Format}
 use Rattle.codec_payload_session_formats.specs.declared.formats.SsrcPair.{SsrcPair}
-use Rattle.codec_payload_session.specs.declared.session.Arrival.{Arrival}
-use Rattle.codec_payload_session.specs.Units.{Event}
-use Rattle.codec_payload_session.specs.declared.session.Event.TheVariants as events
-use Rattle.codec_payload_session.specs.declared.stream.Ending.{Ending}
-use Rattle.codec_payload_session.specs.declared.stream.Stage.{Stage}
-use Rattle.codec_payload_session.specs.declared.stream.Stage.TheVariants as stages
-use Rattle.codec_payload_session.specs.declared.stream.StreamState.{StreamState}
+use Rattle.codec_payload_session_stream.specs.declared.arrival.Arrival.{Arrival}
+use Rattle.codec_payload_session_stream.specs.Units.{Event}
+use Rattle.codec_payload_session_stream.specs.declared.events.Event.TheVariants as events
+use Rattle.codec_payload_session_stream.specs.declared.stream.Ending.{Ending}
+use Rattle.codec_payload_session_stream.specs.declared.stream.Stage.{Stage}
+use Rattle.codec_payload_session_stream.specs.declared.stream.Stage.TheVariants as stages
+use Rattle.codec_payload_session_stream.specs.declared.stream.StreamState.{StreamState}
 use Rattle.codec_payload_session_runs.proofs.AloneLemmas.{finishes_append, made_append, poll_of, pops_append, runs_append, shown_append}
 use Rattle.codec_payload_session_runs.specs.Lives.{AreMadeBy, AreOfOne, HasNoPair, HasSsrcOf, IsGiven, IsPart, ReceiverCall, RunsAlone, events_by, events_in, finishes, follows, given_by, is_same, many_finishes, many_pops, one_call, one_event, pairs, pops, receives, released_by, reports, shown, shown_in, waits, with_shown}
 use Rattle.codec_payload_session_runs.specs.SessionRuns.{Call}
@@ -203,10 +205,10 @@ stage_after_is probation accepted stages.Playing is = refl
 stage_after_is probation accepted (stages.Leaving why at) is = refl
 stage_after_is probation accepted (stages.Draining why) is = refl
 
-unless_heard : (b given : Bool) (now : Ticks) (probation : ℕ) (accepted : Bool) (ssrc : ℕ) (f : Format) (told : Bool) (stage : Stage) (r : Receiver) (s : StreamState)
-    → Heard given ssrc f told stage r s → Heard given ssrc f told stage r (heard_unless b now.0 probation accepted s)
-unless_heard true given now probation accepted ssrc f told stage r s got = got
-unless_heard false given now probation accepted ssrc f told stage r s got = record {
+unless_heard : (b given : Bool) (now : Ticks) (probation : ℕ) (accepted : Bool) (size ssrc : ℕ) (f : Format) (told : Bool) (stage : Stage) (r : Receiver) (s : StreamState)
+    → Heard given ssrc f told stage r s → Heard given ssrc f told stage r (heard_unless b now.0 probation accepted size s)
+unless_heard true given now probation accepted size ssrc f told stage r s got = got
+unless_heard false given now probation accepted size ssrc f told stage r s got = record {
   ssrc_is = got.ssrc_is;
   format = got.format;
   told_is = got.told_is;
@@ -225,7 +227,7 @@ takes_heard : (now : Ticks) (datagram : Vec ℕ) (probation : ℕ) (x : StreamSt
 takes_heard now datagram probation x told y got =
     let r : StreamState = received now.0 datagram.items (is_accepted told) got.0 x in
     subst (λ (z : StreamState). Heard (is_ok told) x.ssrc x.format x.told x.stage got.0 z) (sym got.2)
-    (unless_heard (is_no_memory told) (is_ok told) now probation (is_accepted told) x.ssrc x.format x.told x.stage got.0 (late_followed (is_ok told) now.0 datagram.items r)
+    (unless_heard (is_no_memory told) (is_ok told) now probation (is_accepted told) (payload_size (rtp_at datagram.items)) x.ssrc x.format x.told x.stage got.0 (late_followed (is_ok told) now.0 datagram.items r)
     (late_heard (is_ok told) (is_ok told) now datagram x.ssrc x.format x.told x.stage got.0 r (λ is. is)
     (received_heard (is_ok told) (is_accepted told) now datagram got.0 x (accepted_given told))))
 

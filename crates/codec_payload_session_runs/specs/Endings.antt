@@ -4,18 +4,17 @@ use Rattle.std.specs.Global.{Vec}
 use Rattle.std.specs.declared.alloc.AllocError.{AllocError}
 use Rattle.codec_payload_base.specs.declared.wire.Ticks.{Ticks}
 use Rattle.codec_payload_session.specs.Arrivals.{goodbye_at}
-use Rattle.codec_payload_session.specs.Ports.{new_session}
+use Rattle.codec_payload_session.specs.Ports.{new_session, Session}
 use Rattle.codec_payload_session_formats.specs.declared.formats.SessionSettings.{SessionSettings}
-use Rattle.codec_payload_session.specs.Ports.{Session}
-use Rattle.codec_payload_session.specs.Streams.{is_accepted, is_of, is_probation}
-use Rattle.codec_payload_session.specs.Units.{Event}
-use Rattle.codec_payload_session.specs.declared.session.Arrival.{Arrival}
-use Rattle.codec_payload_session.specs.declared.session.Arrival.TheVariants as arrivals
-use Rattle.codec_payload_session.specs.declared.session.Event.TheVariants as events
-use Rattle.codec_payload_session.specs.declared.stream.Ending.{Ending}
-use Rattle.codec_payload_session.specs.declared.stream.Ending.TheVariants as endings
+use Rattle.codec_payload_session_stream.specs.Streams.{is_accepted, is_of, is_probation}
+use Rattle.codec_payload_session_stream.specs.Units.{Event}
+use Rattle.codec_payload_session_stream.specs.declared.arrival.Arrival.{Arrival}
+use Rattle.codec_payload_session_stream.specs.declared.arrival.Arrival.TheVariants as arrivals
+use Rattle.codec_payload_session_stream.specs.declared.events.Event.TheVariants as events
+use Rattle.codec_payload_session_stream.specs.declared.stream.Ending.{Ending}
+use Rattle.codec_payload_session_stream.specs.declared.stream.Ending.TheVariants as endings
 use Rattle.codec_payload_session_runs.specs.Lives.{EachIsAlone, IsAbsent, StartsWithDatagram, ending_poll, is_same}
-use Rattle.codec_payload_session.specs.declared.stream.StreamState.{StreamState}
+use Rattle.codec_payload_session_stream.specs.declared.stream.StreamState.{StreamState}
 use Rattle.codec_payload_session_runs.specs.SessionRuns.{Call, Does, Runs}
 use Rattle.codec_payload_session_runs.specs.declared.run.SessionStep.{SessionStep}
 use Rattle.codec_payload_session_runs.specs.declared.run.SessionStep.TheVariants as steps

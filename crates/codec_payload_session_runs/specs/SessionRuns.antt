@@ -6,13 +6,14 @@ use Rattle.codec_payload_rtcp.specs.declared.items.ReportBlock.{ReportBlock}
 use Rattle.codec_payload_session.specs.Accepting.{Accepts, time_for}
 use Rattle.codec_payload_session.specs.Arrivals.{Port, has_ssrc}
 use Rattle.codec_payload_session.specs.Keyframes.{answer_among, asks_keyframe}
-use Rattle.codec_payload_session.specs.Pairs.{Pairs, with_pair, without_pair}
+use Rattle.codec_payload_session.specs.Pairs.{Pairs}
+use Rattle.codec_payload_session_stream.specs.Pairs.{with_pair, without_pair}
 use Rattle.codec_payload_session.specs.Polls.{Polls}
 use Rattle.codec_payload_session.specs.Ports.{ReportsIf, Session, ends_all, ends_of, restarts_transport, waits_of}
-use Rattle.codec_payload_session.specs.Streams.{is_of}
+use Rattle.codec_payload_session_stream.specs.Streams.{is_of}
 use Rattle.codec_payload_session_formats.specs.declared.checks.SessionSettingsError.{SessionSettingsError}
-use Rattle.codec_payload_session.specs.declared.session.Arrival.{Arrival}
-use Rattle.codec_payload_session.specs.Units.{Event}
+use Rattle.codec_payload_session_stream.specs.declared.arrival.Arrival.{Arrival}
+use Rattle.codec_payload_session_stream.specs.Units.{Event}
 use Rattle.codec_payload_session_runs.specs.declared.run.NewRunError.{NewRunError}
 use Rattle.codec_payload_session_runs.specs.declared.run.NewRunError.TheVariants as refusals
 use Rattle.codec_payload_session_runs.specs.declared.run.SessionStep.{SessionStep}

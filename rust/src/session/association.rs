@@ -4,9 +4,9 @@
 
 use crate::memory::AllocError;
 use crate::rtp::packet::RtpPacket;
+use crate::session::arrival::Arrival;
 use crate::session::formats::{Role, SessionSettings, SsrcPair};
 use crate::session::requests::{has_requested, original_number};
-use crate::session::sessions::Arrival;
 use crate::session::stream::{StreamState, is_playing};
 use crate::session::streams::Streams;
 use crate::stream::parsed::ParsedDatagram;

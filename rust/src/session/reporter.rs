@@ -4,11 +4,9 @@
 //! which packet.
 
 use crate::memory::AllocError;
-use crate::rtcp::items::ReportBlock;
 use crate::rtcp::packet::ReceiverReport;
 use crate::rtcp::writing::write_cname;
 use crate::session::formats::{FeedbackSettings, LONGEST_NAME, SessionSettings};
-use crate::session::reports::block_about;
 use crate::session::stream::StreamState;
 use crate::session::streams::Streams;
 use crate::wire::{Frequency, Ticks};
@@ -77,32 +75,6 @@ impl Streams {
         self.waking.forget();
         start_fractions(&mut self.list, round);
         Ok(packet)
-    }
-}
-
-impl StreamState {
-    /// Returns the block that a report about the stream's sender has now, and changes nothing.
-    pub(crate) fn peek_report(&self, now: Ticks, tick_rate: Frequency) -> Option<ReportBlock> {
-        match self.receiver.inner().peek_report() {
-            Some(report) => Some(block_about(
-                self.ssrc,
-                self.sender_clock,
-                report,
-                now,
-                tick_rate,
-            )),
-            None => None,
-        }
-    }
-
-    /// Starts the fraction of the next report here, if the stream is reported now. In a new round no other stream was reported.
-    fn start_fraction(&mut self, is_reported: bool, is_new: bool) {
-        if is_reported {
-            self.receiver.report();
-            self.was_reported = true;
-        } else {
-            self.was_reported = !is_new && self.was_reported;
-        }
     }
 }
 

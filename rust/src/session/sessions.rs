@@ -4,14 +4,14 @@
 
 use crate::buffer::PoppedUnit;
 use crate::congestion::arrivals::quarters;
-use crate::error::PacketError;
 use crate::feedback::transport::TransportReporter;
 use crate::jitter::jitter_buffer::WaitLimits;
-use crate::jitter::outcome::Outcome;
 use crate::memory::AllocError;
 use crate::rtcp::items::ReportBlock;
+pub use crate::session::arrival::Arrival;
 use crate::session::association::{add_pair, take_in};
 use crate::session::checks::SessionSettingsError;
+pub use crate::session::events::Event;
 use crate::session::events::{report_event, transport_event, with_unit};
 use crate::session::formats::{Format, SessionSettings, SsrcPair};
 use crate::session::former::former;
@@ -24,138 +24,10 @@ use crate::session::streams::{Streams, Who};
 use crate::session::telephone::TelephoneQueue;
 use crate::session::transports::{note, reporter_for, restart, time_of, transport_deadline};
 use crate::stream::parsed::ParsedDatagram;
-use crate::stream::receiver::{ReceiveError, Receiver};
+use crate::stream::receiver::Receiver;
 use crate::wire::Ticks;
 use alloc::vec::Vec;
 use core::mem;
-
-/// What a session did with a datagram.
-#[derive(Clone, Copy, Debug, PartialEq, Eq)]
-#[non_exhaustive]
-pub enum Arrival {
-    /// A compound packet of RTCP. The streams that its BYE names end (RFC 3550, section 6.6), and its sender reports state the
-    /// clocks of streams (section 6.4.1).
-    Rtcp,
-    /// The datagram is not RTP, and not a valid compound packet of RTCP.
-    Malformed,
-    /// The payload type is not in the settings, or it is one without media and its SSRC has no stream.
-    Unknown,
-    /// The datagram would begin a stream, but all places are taken or the session is finished.
-    Refused,
-    /// A retransmission whose stream is not known: no pair names its SSRC, and none or several streams fit
-    /// ([`Session::receive`]).
-    Unassociated,
-    /// The stream of this SSRC and payload type received the datagram. `outcome` is what [`Receiver::receive`] returned: the
-    /// packet was stored, or why it was dropped.
-    ///
-    /// [`Receiver::receive`]: crate::stream::receiver::Receiver::receive
-    Stream {
-        ssrc: u32,
-        payload_type: u8,
-        outcome: Outcome,
-    },
-    /// The stream of this SSRC and payload type refused the datagram: its payload is not valid RED or not a valid
-    /// retransmission, or memory ran out for older blocks of RED. The stream counts it, and continues. Any peer can send such a
-    /// datagram, so do not end a program for it. `fault` is the error of [`Receiver::receive`], and never
-    /// [`ReceiveError::OutOfMemory`].
-    ///
-    /// [`Receiver::receive`]: crate::stream::receiver::Receiver::receive
-    Faulty {
-        ssrc: u32,
-        payload_type: u8,
-        fault: ReceiveError,
-    },
-}
-
-/// An event of a session. `U` is what it carries of a unit: the unit itself from [`Session::poll`], and `()` from
-/// [`Session::poll_into`], which writes the unit to memory of the caller.
-#[derive(Debug)]
-#[non_exhaustive]
-pub enum Event<U = PoppedUnit> {
-    /// A stream is announced. This is the first event of the stream. [`Session::names_of`] returns its MID and RID, as far as its
-    /// packets had them before.
-    Begun { ssrc: u32, payload_type: u8 },
-    /// A unit of a stream. If memory ran out for it, the frame is kept, and the next poll tries again. `rtp_time` is in ticks of
-    /// the RTP clock, without wrapping. A decoder can show the unit if it is `decodable`: see [`Receiver::unit_is_decodable`],
-    /// and [`Receiver::unit_is_keyframe`] for `keyframe`.
-    ///
-    /// [`Receiver::unit_is_decodable`]: crate::stream::receiver::Receiver::unit_is_decodable
-    /// [`Receiver::unit_is_keyframe`]: crate::stream::receiver::Receiver::unit_is_keyframe
-    Unit {
-        ssrc: u32,
-        payload_type: u8,
-        rtp_time: Option<u64>,
-        decodable: bool,
-        keyframe: bool,
-        unit: Result<U, AllocError>,
-    },
-    /// A unit of a stream with more bytes than `max_unit` of the settings. It counts as a refused frame: its packets count as
-    /// `left`, for video the units after it follow a loss, and the stream continues. Any peer can send such a unit, so do not
-    /// end a program for it.
-    TooLarge {
-        ssrc: u32,
-        payload_type: u8,
-        unit: U,
-    },
-    /// A frame of a stream that the depacketizer refused, since its payloads are malformed. The frame was dropped, its packets
-    /// count as `left`, and the stream continues. Any peer can send such a frame, so do not end a program for it. `fault` is
-    /// never [`PacketError::OutOfMemory`].
-    Refused {
-        ssrc: u32,
-        payload_type: u8,
-        fault: PacketError,
-    },
-    /// A compound packet of RTCP for the sender of a stream, which `packet` returns: a NACK of the packets that are to be
-    /// requested now (RFC 4585, section 6.2.1), and a PLI if a keyframe is (section 6.3.1). Send it: its requests count as
-    /// sent. If memory ran out, they stay due, and the next poll tries again.
-    Feedback {
-        ssrc: u32,
-        payload_type: u8,
-        packet: Result<Vec<u8>, AllocError>,
-    },
-    /// A packet of telephone events (RFC 4733) that a stream of this SSRC took as one without media: its payload type is one of
-    /// `telephone_events` of the settings. `payload` has a report of 4 bytes for each event ([`TelephoneEvent::parse_all`] reads
-    /// them; a sender may put anything into it), `rtp_time` is the RTP time at which the events began, in ticks of the RTP clock,
-    /// and `marker` is set in the first packet of an event.
-    ///
-    /// All packets of an event have the same RTP time, its last one is sent three times (section 2.5.1), and a network can repeat
-    /// any of them, so go by the RTP time. It is also returned for a stream that is not announced yet.
-    ///
-    /// [`TelephoneEvent::parse_all`]: crate::interface::TelephoneEvent::parse_all
-    Telephone {
-        ssrc: u32,
-        payload_type: u8,
-        rtp_time: u32,
-        marker: bool,
-        payload: Vec<u8>,
-    },
-    /// A compound packet of RTCP for all senders, which `packet` returns: a receiver report (RFC 3550, section 6.4.2) about the
-    /// announced streams, each [`FeedbackSettings::report_interval`]. Send it. If memory ran out, nothing has changed, and the
-    /// next poll tries again.
-    ///
-    /// It has a block about each announced stream that has one ([`Session::report`]), in the order in which they began; of two
-    /// streams with one SSRC only about the later one. A report holds at most 31 blocks, so more streams take several reports
-    /// in the packet. Without a block there is one empty report. The name of the session follows, if it has one.
-    ///
-    /// [`FeedbackSettings::report_interval`]: crate::session::formats::FeedbackSettings::report_interval
-    Report { packet: Result<Vec<u8>, AllocError> },
-    /// A packet of RTCP for the peer, which `packet` returns: transport-wide feedback, which says when each packet of the transport
-    /// arrived since the last one, or that it is missing (draft-holmer-rmcat-transport-wide-cc-extensions-01, section 3.1). Send it:
-    /// its arrivals count as reported. If memory ran out, nothing has changed, and the next poll tries again.
-    ///
-    /// It comes each [`TransportSettings::interval`] while packets arrive, in parts if it is larger than
-    /// [`TransportSettings::size`]. With `has_report` of the feedback's settings it follows an empty receiver report and the name.
-    ///
-    /// [`TransportSettings::interval`]: crate::feedback::transport::TransportSettings::interval
-    /// [`TransportSettings::size`]: crate::feedback::transport::TransportSettings::size
-    TransportFeedback { packet: Result<Vec<u8>, AllocError> },
-    /// A stream was removed. This is the last event of the stream. [`Session::last_stream`] then has its last counts.
-    Ended {
-        ssrc: u32,
-        payload_type: u8,
-        why: Ending,
-    },
-}
 
 /// Counts of datagrams by result, each modulo 2^64. `received` is the sum of all others except `telephone_dropped`, and of the
 /// datagrams that the existing streams took.

@@ -5,23 +5,24 @@
 use crate::buffer::PoppedUnit;
 use crate::index::ssrcs::Ssrcs;
 use crate::jitter::jitter_buffer::WaitLimits;
-use crate::jitter::outcome::Outcome;
 use crate::memory::{AllocError, TryVec};
 use crate::rtcp::compound::{CompoundRule, Packets, read_compound};
 use crate::rtcp::items::ReportBlock;
 use crate::rtp::packet::PacketHeader;
+use crate::session::arrival::{Arrival, arrival_of, feed_one};
 use crate::session::changes::{continues, leave_behind};
 use crate::session::compound::take_packets;
 use crate::session::dues::due_in;
+use crate::session::events::Event;
 use crate::session::formats::{Format, SessionSettings, SsrcPair};
 use crate::session::pairs::{pair, with_pair};
 use crate::session::renegotiation::leave_formats;
-use crate::session::sessions::{Arrival, Event};
 use crate::session::sort::{SortedPacket, sort};
-use crate::session::stream::{Ending, Step, StreamInfo, StreamState, is_no_memory, is_nothing};
+use crate::session::stream::{
+    Ending, Step, StreamInfo, StreamState, Turn, is_no_memory, is_nothing,
+};
 use crate::session::waking::{Waking, step_due, step_excepted};
 use crate::stream::parsed::ParsedDatagram;
-use crate::stream::receiver::ReceiveError;
 use crate::wire::{Frequency, Ticks};
 use alloc::vec::Vec;
 
@@ -39,13 +40,6 @@ pub(crate) struct Streams {
     pub(crate) last: Option<StreamInfo>,
     /// When they may have their next events.
     pub(crate) waking: Waking,
-}
-
-/// The step of the stream at a place.
-#[derive(Debug)]
-pub(crate) struct Turn<U> {
-    pub(crate) place: usize,
-    pub(crate) step: Step<U>,
 }
 
 /// The streams to end.
@@ -462,39 +456,6 @@ impl Streams {
         self.finished = true;
         self.waking.forget();
         leave(&mut self.list, Who::All, Ending::Told, at);
-    }
-}
-
-/// Passes a datagram to the stream.
-#[inline(always)]
-fn feed_one(
-    stream: &mut StreamState,
-    probation: u64,
-    now: Ticks,
-    datagram: &ParsedDatagram<'_>,
-) -> Result<Arrival, AllocError> {
-    let (ssrc, payload_type) = (stream.ssrc, stream.format.payload_type);
-    let answer = stream.take(now, probation, datagram);
-    if is_no_memory(&answer) {
-        return Err(AllocError);
-    }
-    Ok(arrival_of(ssrc, payload_type, answer))
-}
-
-/// Returns what was done with a datagram for which the stream has this answer.
-#[inline(always)]
-fn arrival_of(ssrc: u32, payload_type: u8, answer: Result<Outcome, ReceiveError>) -> Arrival {
-    match answer {
-        Ok(outcome) => Arrival::Stream {
-            ssrc,
-            payload_type,
-            outcome,
-        },
-        Err(fault) => Arrival::Faulty {
-            ssrc,
-            payload_type,
-            fault,
-        },
     }
 }
 

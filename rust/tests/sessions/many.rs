@@ -199,10 +199,10 @@ fn memory_of_sessions_and_streams() {
     let audio: Datagram = opus;
     let video: Datagram = |ssrc, number| vp8(ssrc, number, number == 0);
     let lines = [
-        ("audio", audio, 40, 2_700),
-        ("audio", audio, 1_500, 4_620),
-        ("video", video, 40, 2_840),
-        ("video", video, 6_000, 7_840),
+        ("audio", audio, 40, 2_710),
+        ("audio", audio, 1_500, 4_630),
+        ("video", video, 40, 2_850),
+        ("video", video, 6_000, 7_850),
     ];
     for (name, datagram, packets, most) in lines {
         // The list of streams has places for a power of two.

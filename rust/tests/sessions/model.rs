@@ -33,6 +33,7 @@ struct Plain {
     /// What a stream of VP8 requests, if the session requests anything.
     requests: Option<StreamRequests>,
     taken: u64,
+    bytes: u64,
     accepted: u64,
     /// Whether it left probation.
     plays: bool,
@@ -156,6 +157,7 @@ impl Plain {
             Err(_) | Ok(Outcome::Duplicate | Outcome::Late | Outcome::Suspect)
         );
         self.taken += 1;
+        self.bytes += payload_size(bytes);
         self.last = now;
         self.accepted += u64::from(!is_refused);
         self.plays |= self.accepted >= probation;
@@ -250,6 +252,7 @@ impl Model {
             requests: (self.rules.requests && payload_type == VP8)
                 .then(|| StreamRequests::new(ssrc, NackSettings::live(), 500)),
             taken: 0,
+            bytes: 0,
             accepted: 0,
             plays: false,
             announced: false,
@@ -550,6 +553,20 @@ fn datagram(dice: &mut Dice, latest: &mut [u16]) -> (Sent, Vec<u8>) {
     }
 }
 
+/// The bytes of an RTP packet without its header (RFC 3550, section 5.1), header extension and padding.
+fn payload_size(packet: &[u8]) -> u64 {
+    let mut header = 12 + 4 * usize::from(packet[0] & 15);
+    if packet[0] & 0x10 != 0 {
+        let words = u16::from_be_bytes([packet[header + 2], packet[header + 3]]);
+        header += 4 + 4 * usize::from(words);
+    }
+    let padding = match packet[0] & 0x20 {
+        0 => 0,
+        _ => usize::from(packet[packet.len() - 1]),
+    };
+    (packet.len() - header - padding) as u64
+}
+
 /// The session and the model have the same streams, counts and deadline.
 fn assert_same(session: &Session, model: &Model) {
     let streams = (0..session.stream_count()).filter_map(|place| session.stream_at(place));
@@ -559,13 +576,14 @@ fn assert_same(session: &Session, model: &Model) {
                 it.ssrc,
                 it.payload_type,
                 it.taken,
+                it.bytes,
                 it.stage != Stage::Probation,
             )
         })
         .collect();
     let plain = model.streams.iter();
     let plain: Vec<_> = plain
-        .map(|it| (it.ssrc, it.payload_type, it.taken, it.plays))
+        .map(|it| (it.ssrc, it.payload_type, it.taken, it.bytes, it.plays))
         .collect();
     assert_eq!(streams, plain);
     let counts = session.counts();

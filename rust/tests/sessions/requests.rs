@@ -484,6 +484,8 @@ fn requests_are_counted_up_to_the_end() -> Result<(), Fail> {
             let last = session.last_stream().ok_or("no stream ended")?;
             assert_eq!((ssrc, last.ssrc, last.requests), (7, 7, sent[1].1));
             assert_eq!((last.taken, last.held), (5, 0));
+            let size = opus(7, 1).len() as u64 - 12;
+            assert_eq!(last.bytes, 5 * size);
             let packets = last.counters.packets;
             assert_eq!((packets.released, packets.units), (5, 5));
             ended = true;

@@ -1,5 +1,5 @@
 use Rattle.std.proofs.Common.{◌≡◌, ◌∙◌, List, ap, refl}
-use Rattle.codec_payload_session.specs.Pairs.{paired_where, with_pair}
+use Rattle.codec_payload_session_stream.specs.Pairs.{paired_where, with_pair}
 use Rattle.codec_payload_session_formats.specs.declared.formats.SsrcPair.{SsrcPair}
 use Rattle.codec_payload_session.proofs.association.add_pair.Goals as goal
 

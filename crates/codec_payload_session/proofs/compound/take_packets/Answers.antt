@@ -3,12 +3,12 @@ use Rattle.codec_payload_rtcp.specs.RtcpPackets.{Packet}
 use Rattle.codec_payload_rtcp.specs.RtcpReading.{packets_left}
 use Rattle.codec_payload_rtcp.specs.RtcpValues.{packet_of}
 use Rattle.codec_payload_session.specs.Arrivals.{left_if, left_where, say_goodbye, says_goodbye}
-use Rattle.codec_payload_session.specs.Reports.{noted, noted_where}
-use Rattle.codec_payload_session.specs.Waking.{ssrcs_of}
-use Rattle.codec_payload_session.specs.declared.stream.Ending.TheVariants as endings
-use Rattle.codec_payload_session.specs.declared.stream.StreamState.{StreamState}
+use Rattle.codec_payload_session_stream.specs.Reports.{noted, noted_where}
+use Rattle.codec_payload_session_stream.specs.Waking.{ssrcs_of}
+use Rattle.codec_payload_session_stream.specs.declared.stream.Ending.TheVariants as endings
+use Rattle.codec_payload_session_stream.specs.declared.stream.StreamState.{StreamState}
 use Rattle.codec_payload_session.proofs.GoodbyeLemmas.{left_either, left_nobody, noted_left}
-use Rattle.codec_payload_session.proofs.ReportLemmas.{noted_first, noted_nothing}
+use Rattle.codec_payload_session_stream.proofs.ReportLemmas.{noted_first, noted_nothing}
 use Rattle.codec_payload_session.proofs.SsrcLemmas.{left_ssrc, same_mapped}
 use Rattle.codec_payload_session.proofs.compound.take_packets.Goals as goal
 

@@ -1,9 +1,9 @@
 use Rattle.std.proofs.Common.{◌≡◌, false, length}
 use Rattle.codec_payload_rtcp.specs.RtcpReading.{packets_left}
 use Rattle.codec_payload_session.specs.Arrivals.{left_where, say_goodbye}
-use Rattle.codec_payload_session.specs.Reports.{noted_where}
-use Rattle.codec_payload_session.specs.Waking.{ssrcs_of}
-use Rattle.codec_payload_session.specs.declared.stream.Ending.TheVariants as endings
+use Rattle.codec_payload_session_stream.specs.Reports.{noted_where}
+use Rattle.codec_payload_session_stream.specs.Waking.{ssrcs_of}
+use Rattle.codec_payload_session_stream.specs.declared.stream.Ending.TheVariants as endings
 use Rattle.codec_payload_session.proofs.compound.take_packets.Given as goal
 
 -- the packets so far, and then the others; and the same without a BYE so far

@@ -4,7 +4,7 @@ use Rattle.codec_payload_rtcp.specs.declared.packet.Goodbye.{Goodbye}
 use Rattle.codec_payload_rtcp.specs.declared.packet.RtcpPacket.{RtcpPacket}
 use Rattle.codec_payload_rtcp.specs.declared.packet.RtcpPacket.TheVariants as lent
 use Rattle.codec_payload_session.specs.Arrivals.{says_goodbye}
-use Rattle.codec_payload_session.specs.declared.stream.Ending.TheVariants as endings
+use Rattle.codec_payload_session_stream.specs.declared.stream.Ending.TheVariants as endings
 use Rattle.codec_payload_session.proofs.GoodbyeLemmas.{left_nobody}
 use Rattle.codec_payload_session.proofs.goodbyes.leave_by_packet.Goals as goal
 

@@ -1,8 +1,8 @@
 use Rattle.std.proofs.Common.{◌∙◌, ◌||◌, List, Some, ap, sym}
 use Rattle.codec_payload_session.specs.Arrivals.{includes, left_if, left_where, named_in}
-use Rattle.codec_payload_session.specs.Waking.{ssrcs_of}
-use Rattle.codec_payload_session.specs.declared.stream.Ending.TheVariants as endings
-use Rattle.codec_payload_session.specs.declared.stream.StreamState.{StreamState}
+use Rattle.codec_payload_session_stream.specs.Waking.{ssrcs_of}
+use Rattle.codec_payload_session_stream.specs.declared.stream.Ending.TheVariants as endings
+use Rattle.codec_payload_session_stream.specs.declared.stream.StreamState.{StreamState}
 use Rattle.codec_payload_session.specs.declared.streams.Who.TheVariants as whos
 use Rattle.codec_payload_session.proofs.GoodbyeLemmas.{left_either, left_nobody, left_same}
 use Rattle.codec_payload_session.proofs.SourceLemmas.{named_nowhere, names_more, sources_fewer}

@@ -1,7 +1,7 @@
 use Rattle.std.proofs.Common.{◌≡◌, false, length}
 use Rattle.codec_payload_session.specs.Arrivals.{left_where, named_in}
-use Rattle.codec_payload_session.specs.Waking.{ssrcs_of}
-use Rattle.codec_payload_session.specs.declared.stream.Ending.TheVariants as endings
+use Rattle.codec_payload_session_stream.specs.Waking.{ssrcs_of}
+use Rattle.codec_payload_session_stream.specs.declared.stream.Ending.TheVariants as endings
 use Rattle.codec_payload_session.proofs.goodbyes.leave_each.Given as goal
 
 -- the SSRCs so far, and then the others; no stream has another SSRC, and without an end none has changed

@@ -1,10 +1,11 @@
 use Rattle.std.proofs.Common.{◌≡◌, ◌∙◌, ◌<◌, ◌+◌, ℕ, List, Some, None, ap, arith, length, refl, subst}
 use Rattle.codec_payload_index.specs.Ssrcs.{IsPlaceFrom}
 use Rattle.codec_payload_session.specs.Arrivals.{includes, left_if}
-use Rattle.codec_payload_session.specs.declared.stream.Ending.TheVariants as endings
+use Rattle.codec_payload_session_stream.specs.declared.stream.Ending.TheVariants as endings
 use Rattle.codec_payload_session.specs.declared.streams.Who.TheVariants as whos
-use Rattle.codec_payload_session.proofs.PlaceLemmas.{changes_stage, changed_all, changed_length, changed_next}
-use Rattle.codec_payload_session.proofs.SsrcLemmas.{count_of}
+use Rattle.codec_payload_session.proofs.PlaceLemmas.{changes_stage}
+use Rattle.codec_payload_session_stream.proofs.PlaceLemmas.{changed_all, changed_length, changed_next}
+use Rattle.codec_payload_session_stream.proofs.SsrcLemmas.{count_of}
 use Rattle.codec_payload_session.proofs.goodbyes.leave_of.Goals as goal
 
 pub offset_bounds-streams-place : goal.offset_bounds-streams-place

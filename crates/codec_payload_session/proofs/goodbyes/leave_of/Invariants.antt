@@ -1,6 +1,6 @@
 use Rattle.std.proofs.Common.{◌≡◌, ◌≤◌, ◌-◌, ◌++◌, drop, length, take}
 use Rattle.codec_payload_session.specs.Arrivals.{includes, left_where}
-use Rattle.codec_payload_session.specs.declared.stream.Ending.TheVariants as endings
+use Rattle.codec_payload_session_stream.specs.declared.stream.Ending.TheVariants as endings
 use Rattle.codec_payload_session.specs.declared.streams.Who.TheVariants as whos
 use Rattle.codec_payload_session.proofs.goodbyes.leave_of.Given as goal
 

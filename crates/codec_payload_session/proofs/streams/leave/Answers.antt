@@ -1,5 +1,5 @@
 use Rattle.codec_payload_session.specs.Arrivals.{includes, left_if}
-use Rattle.codec_payload_session.proofs.QuietLemmas.{preserved}
+use Rattle.codec_payload_session_stream.proofs.QuietLemmas.{preserved}
 use Rattle.codec_payload_session.proofs.streams.leave.Goals as goal
 
 pub loop-place-preserved : goal.loop-place-preserved

@@ -1,5 +1,5 @@
 use Rattle.std.proofs.Common.{◌≡◌, ◌++◌, drop, take}
-use Rattle.codec_payload_session.specs.Streams.{waiting_where}
+use Rattle.codec_payload_session_stream.specs.Streams.{waiting_where}
 use Rattle.codec_payload_session.proofs.streams.set_wait_limits.Given as goal
 
 abbrev pub invariant-loop-place : goal.invariant-loop-place

@@ -1,8 +1,8 @@
 use Rattle.std.proofs.Common.{◌≡◌, ◌∙◌, sym, true, false}
-use Rattle.codec_payload_session.specs.Turns.{is_nothing}
-use Rattle.codec_payload_session.specs.Units.{step_to}
-use Rattle.codec_payload_session.proofs.QuietLemmas.{found_in, quiet_in}
-use Rattle.codec_payload_session.proofs.UnitLemmas.{nothing_to}
+use Rattle.codec_payload_session_stream.specs.Turns.{is_nothing}
+use Rattle.codec_payload_session_stream.specs.Units.{step_to}
+use Rattle.codec_payload_session_stream.proofs.QuietLemmas.{found_in, quiet_in}
+use Rattle.codec_payload_session_stream.proofs.UnitLemmas.{nothing_to}
 use Rattle.codec_payload_session.proofs.streams.step_first.Goals as goal
 
 pub returns-then-not-is_nothing : goal.returns-then-not-is_nothing

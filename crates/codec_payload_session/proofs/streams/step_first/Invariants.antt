@@ -1,6 +1,6 @@
 use Rattle.std.proofs.Common.{◌≡◌, ◌++◌, List, drop, take}
-use Rattle.codec_payload_session.specs.Turns.{AreQuiet}
-use Rattle.codec_payload_session.specs.declared.stream.StreamState.{StreamState}
+use Rattle.codec_payload_session_stream.specs.Turns.{AreQuiet}
+use Rattle.codec_payload_session_stream.specs.declared.stream.StreamState.{StreamState}
 use Rattle.codec_payload_session.proofs.streams.step_first.Given as goal
 
 -- the streams so far were quiet

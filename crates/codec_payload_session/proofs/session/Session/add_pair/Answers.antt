@@ -1,5 +1,6 @@
 use Rattle.std.proofs.Common.{OnOk, subst}
-use Rattle.codec_payload_session.specs.Pairs.{Pairs, with_pair}
+use Rattle.codec_payload_session.specs.Pairs.{Pairs}
+use Rattle.codec_payload_session_stream.specs.Pairs.{with_pair}
 use Rattle.codec_payload_session.specs.Ports.{Session}
 use Rattle.codec_payload_session_formats.specs.declared.formats.SsrcPair.{SsrcPair}
 use Rattle.codec_payload_session.proofs.AssociationLemmas.{adds_or_stays, named_pair}

@@ -1,7 +1,7 @@
 use Rattle.std.proofs.Common.{subst, sym, true}
 use Rattle.codec_payload_session.specs.Arrivals.{Port}
 use Rattle.codec_payload_session.specs.Ports.{IsPort, everyone}
-use Rattle.codec_payload_session.specs.declared.stream.Ending.TheVariants as endings
+use Rattle.codec_payload_session_stream.specs.declared.stream.Ending.TheVariants as endings
 use Rattle.codec_payload_session.proofs.AccountLemmas.{left_keeps}
 use Rattle.codec_payload_session.proofs.session.Session.finish.Goals as goal
 

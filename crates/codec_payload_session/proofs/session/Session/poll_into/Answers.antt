@@ -3,12 +3,13 @@ use Rattle.std.specs.Prelude.{⊤}
 use Rattle.codec_payload_metadata.specs.Release.{Release}
 use Rattle.codec_payload_session.specs.Polls.{Polls}
 use Rattle.codec_payload_session.specs.Ports.{Session}
-use Rattle.codec_payload_session.specs.Units.{event_to, with_unit}
-use Rattle.codec_payload_session.specs.declared.session.Event.{Event as EventWith}
+use Rattle.codec_payload_session_stream.specs.Units.{event_to, with_unit}
+use Rattle.codec_payload_session_stream.specs.declared.events.Event.{Event as EventWith}
 use Rattle.codec_payload_session.proofs.IdleLemmas.{idle_after}
 use Rattle.codec_payload_session.proofs.PacketsLemmas.{polls_some}
-use Rattle.codec_payload_session.proofs.TelephoneLemmas.{polls_first, polls_turn, stay_fewer}
-use Rattle.codec_payload_session.proofs.UnitLemmas.{gives_to}
+use Rattle.codec_payload_session.proofs.TelephoneLemmas.{polls_first, polls_turn}
+use Rattle.codec_payload_session_stream.proofs.TelephoneLemmas.{stay_fewer}
+use Rattle.codec_payload_session_stream.proofs.UnitLemmas.{gives_to}
 use Rattle.codec_payload_session.proofs.session.Session.poll_into.Goals as goal
 
 pub invariant_of-self : goal.invariant_of-self

@@ -2,12 +2,12 @@ use Rattle.std.proofs.Common.{◌≤◌, Bool, Option, length, subst, sym}
 use Rattle.codec_payload_rtp.specs.RtpPackets.{Packet}
 use Rattle.codec_payload_session.specs.Associations.{Associates, AssociatesBy, pair_at}
 use Rattle.codec_payload_session.specs.Ports.{IsPort, Session}
-use Rattle.codec_payload_session.specs.Telephone.{Queue, is_without_media, telephone_at}
+use Rattle.codec_payload_session_stream.specs.Telephone.{Queue, is_without_media, telephone_at}
 use Rattle.codec_payload_session_formats.specs.declared.formats.SsrcPair.{SsrcPair}
 use Rattle.codec_payload_session.specs.declared.session.ArrivalCounts.{ArrivalCounts}
 use Rattle.codec_payload_session.proofs.AssociationLemmas.{associates, takes_in_by_keeps}
 use Rattle.codec_payload_session.proofs.CheckLemmas.{takes_usable}
-use Rattle.codec_payload_session.proofs.TelephoneLemmas.{queues_settled, stay_few}
+use Rattle.codec_payload_session_stream.proofs.TelephoneLemmas.{queues_settled, stay_few}
 use Rattle.codec_payload_session.proofs.session.Session.receive_parsed.Goals as goal
 
 pub invariant_of-self : goal.invariant_of-self

@@ -2,7 +2,7 @@ use Rattle.std.proofs.Common.{◌≡◌, refl, subst}
 use Rattle.std.specs.List.{position}
 use Rattle.codec_payload_session.specs.Arrivals.{Port}
 use Rattle.codec_payload_session.specs.Ports.{ReportsIf, Session}
-use Rattle.codec_payload_session.specs.Streams.{is_of}
+use Rattle.codec_payload_session_stream.specs.Streams.{is_of}
 use Rattle.codec_payload_session.proofs.AccountLemmas.{reports_keep}
 use Rattle.codec_payload_session.proofs.session.Session.report.Goals as goal
 

@@ -1,9 +1,10 @@
 use Rattle.std.proofs.Common.{◌∙◌, List, subst, sym}
 use Rattle.codec_payload_session.specs.Arrivals.{Port}
 use Rattle.codec_payload_session.specs.Ports.{IsPort}
-use Rattle.codec_payload_session.specs.Renegotiation.{StayOrEnd, with_formats}
+use Rattle.codec_payload_session_stream.specs.Renegotiation.{StayOrEnd}
+use Rattle.codec_payload_session.specs.Renegotiation.{with_formats}
 use Rattle.codec_payload_session_formats.specs.declared.formats.Format.{Format}
-use Rattle.codec_payload_session.specs.declared.stream.StreamState.{StreamState}
+use Rattle.codec_payload_session_stream.specs.declared.stream.StreamState.{StreamState}
 use Rattle.codec_payload_session.proofs.RenegotiationLemmas.{formats_keep}
 use Rattle.codec_payload_session.proofs.session.Session.set_formats.Goals as goal
 

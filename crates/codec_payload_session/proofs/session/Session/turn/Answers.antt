@@ -1,7 +1,7 @@
 use Rattle.std.proofs.Common.{Option, Some, None, refl, subst}
 use Rattle.codec_payload_session.specs.Polls.{TurnsOrReports}
 use Rattle.codec_payload_session.specs.Ports.{Session}
-use Rattle.codec_payload_session.specs.Units.{Event, event_to}
+use Rattle.codec_payload_session_stream.specs.Units.{Event, event_to}
 use Rattle.codec_payload_session.proofs.AccountLemmas.{turn_keeps}
 use Rattle.codec_payload_session.proofs.UnitLemmas.{sends_to}
 use Rattle.codec_payload_session.proofs.session.Session.turn.Goals as goal

@@ -1,5 +1,5 @@
 use Rattle.std.proofs.Common.{None, Some, refl}
-use Rattle.codec_payload_session.specs.Units.{event_to}
+use Rattle.codec_payload_session_stream.specs.Units.{event_to}
 use Rattle.codec_payload_session.proofs.UnitLemmas.{feeds_to}
 use Rattle.codec_payload_session.proofs.session.Session.turn_or_feedback.Goals as goal
 

@@ -1,6 +1,6 @@
 use Rattle.std.proofs.Common.{◌≡◌, ◌∙◌, ◌++◌, ◌∷◌, [], List, ap, subst}
-use Rattle.codec_payload_session.specs.Streams.{StreamState}
-use Rattle.codec_payload_session.specs.Waking.{Grows}
+use Rattle.codec_payload_session_stream.specs.Streams.{StreamState}
+use Rattle.codec_payload_session_stream.specs.Waking.{Grows}
 use Rattle.codec_payload_session.proofs.SsrcLemmas.{grown}
 use Rattle.codec_payload_session.proofs.streams.Streams.add.Goals as goal
 

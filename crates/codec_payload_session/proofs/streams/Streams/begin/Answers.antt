@@ -1,6 +1,6 @@
 use Rattle.std.proofs.Common.{◌≡◌, ◌∙◌, Bool, true, Ok, ap, inl, subst, sym}
 use Rattle.codec_payload_session.specs.Arrivals.{BeginsIf, has_place}
-use Rattle.codec_payload_session.specs.declared.session.Arrival.{Arrival}
+use Rattle.codec_payload_session_stream.specs.declared.arrival.Arrival.{Arrival}
 use Rattle.codec_payload_session.proofs.streams.Streams.begin.Goals as goal
 
 pub returns : goal.returns

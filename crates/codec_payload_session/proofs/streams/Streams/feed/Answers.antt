@@ -1,9 +1,9 @@
 use Rattle.std.proofs.Common.{◌≡◌, ◌∙◌, ◌<◌, List, length, subst, sym, true}
 use Rattle.codec_payload_session.specs.Arrivals.{Port}
-use Rattle.codec_payload_session.specs.Waking.{IsBound}
-use Rattle.codec_payload_session.specs.declared.stream.StreamState.{StreamState}
+use Rattle.codec_payload_session_stream.specs.Waking.{IsBound}
+use Rattle.codec_payload_session_stream.specs.declared.stream.StreamState.{StreamState}
 use Rattle.codec_payload_session.proofs.SsrcLemmas.{same_set, takes_ssrc}
-use Rattle.codec_payload_session.proofs.WakingLemmas.{bound_set}
+use Rattle.codec_payload_session_stream.proofs.WakingLemmas.{bound_set}
 use Rattle.codec_payload_session.proofs.streams.Streams.feed.Goals as goal
 
 pub invariant_of-self : goal.invariant_of-self

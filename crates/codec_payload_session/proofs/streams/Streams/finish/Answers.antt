@@ -1,7 +1,7 @@
 use Rattle.std.proofs.Common.{◌∙◌, ap}
-use Rattle.codec_payload_session.specs.Waking.{ssrcs_of}
+use Rattle.codec_payload_session_stream.specs.Waking.{ssrcs_of}
 use Rattle.codec_payload_session.specs.Arrivals.{includes, left_if}
-use Rattle.codec_payload_session.specs.declared.stream.Ending.TheVariants as endings
+use Rattle.codec_payload_session_stream.specs.declared.stream.Ending.TheVariants as endings
 use Rattle.codec_payload_session.specs.declared.streams.Who.TheVariants as whos
 use Rattle.codec_payload_session.proofs.SsrcLemmas.{forgotten, left_ssrc, same_mapped}
 use Rattle.codec_payload_session.proofs.streams.Streams.finish.Goals as goal

@@ -1,10 +1,11 @@
 use Rattle.std.proofs.Common.{◌≡◌, ◌∙◌, ℕ, List, None, true, false, arith, subst, sym}
 use Rattle.codec_payload_index.specs.Ssrcs.{IsFirstFrom, IsPlaceFrom}
 use Rattle.codec_payload_session.specs.Arrivals.{Port}
-use Rattle.codec_payload_session.specs.Changes.{any_left_behind, is_left_behind}
-use Rattle.codec_payload_session.specs.Streams.{StreamState}
-use Rattle.codec_payload_session.specs.Waking.{ssrcs_of}
-use Rattle.codec_payload_session.proofs.SsrcLemmas.{count_of, found_in, none_at_all, none_before, none_left, of_left, one_left, one_more}
+use Rattle.codec_payload_session_stream.specs.Changes.{any_left_behind, is_left_behind}
+use Rattle.codec_payload_session_stream.specs.Streams.{StreamState}
+use Rattle.codec_payload_session_stream.specs.Waking.{ssrcs_of}
+use Rattle.codec_payload_session_stream.proofs.SsrcLemmas.{count_of}
+use Rattle.codec_payload_session.proofs.SsrcLemmas.{found_in, none_at_all, none_before, none_left, of_left, one_left, one_more}
 use Rattle.codec_payload_session.proofs.streams.Streams.has_left_behind.Goals as goal
 
 pub index-requires : goal.index-requires

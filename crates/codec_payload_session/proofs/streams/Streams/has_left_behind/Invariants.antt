@@ -1,6 +1,6 @@
 use Rattle.std.proofs.Common.{◌≡◌, ◌-◌, ◌≤◌, length, false}
 use Rattle.std.specs.List.{AllWithin}
-use Rattle.codec_payload_session.specs.Changes.{is_left_behind}
+use Rattle.codec_payload_session_stream.specs.Changes.{is_left_behind}
 use Rattle.codec_payload_session.proofs.streams.Streams.has_left_behind.Given as goal
 
 -- no stream so far was left

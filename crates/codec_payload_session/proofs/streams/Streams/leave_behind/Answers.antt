@@ -1,7 +1,7 @@
 use Rattle.std.proofs.Common.{◌≡◌, ◌∙◌, List, ap, false, sym, true}
-use Rattle.codec_payload_session.specs.Changes.{any_left_behind, continues}
-use Rattle.codec_payload_session.specs.declared.stream.StreamState.{StreamState}
-use Rattle.codec_payload_session.specs.Waking.{ssrcs_of}
+use Rattle.codec_payload_session_stream.specs.Changes.{any_left_behind, continues}
+use Rattle.codec_payload_session_stream.specs.declared.stream.StreamState.{StreamState}
+use Rattle.codec_payload_session_stream.specs.Waking.{ssrcs_of}
 use Rattle.codec_payload_session.proofs.ChangeLemmas.{none_left}
 use Rattle.codec_payload_session.proofs.SsrcLemmas.{forgotten, same_continued}
 use Rattle.codec_payload_session.proofs.streams.Streams.leave_behind.Goals as goal

@@ -2,9 +2,9 @@ use Rattle.std.proofs.Common.{◌≡◌, ◌∙◌, List, ap, length, subst, sym
 use Rattle.std.proofs.lemmas.List.{with_items_is}
 use Rattle.std.specs.Vec.{with_items}
 use Rattle.codec_payload_session.specs.Arrivals.{Port}
-use Rattle.codec_payload_session.specs.Renegotiation.{StayOrEnd}
-use Rattle.codec_payload_session.specs.declared.stream.StreamState.{StreamState}
-use Rattle.codec_payload_session.specs.Waking.{ssrcs_of}
+use Rattle.codec_payload_session_stream.specs.Renegotiation.{StayOrEnd}
+use Rattle.codec_payload_session_stream.specs.declared.stream.StreamState.{StreamState}
+use Rattle.codec_payload_session_stream.specs.Waking.{ssrcs_of}
 use Rattle.codec_payload_session.proofs.RenegotiationLemmas.{length_stays, ssrcs_stay}
 use Rattle.codec_payload_session.proofs.SsrcLemmas.{forgotten}
 use Rattle.codec_payload_session.proofs.streams.Streams.leave_formats.Goals as goal

@@ -1,7 +1,7 @@
 use Rattle.std.proofs.Common.{◌∙◌, ap}
-use Rattle.codec_payload_session.specs.Waking.{ssrcs_of}
+use Rattle.codec_payload_session_stream.specs.Waking.{ssrcs_of}
 use Rattle.std.specs.Prelude.{◌==◌}
-use Rattle.codec_payload_session.specs.Pairs.{paired_if}
+use Rattle.codec_payload_session_stream.specs.Pairs.{paired_if}
 use Rattle.codec_payload_session.proofs.SsrcLemmas.{forgotten, paired_when_ssrc, same_mapped}
 use Rattle.codec_payload_session.proofs.streams.Streams.pair.Goals as goal
 

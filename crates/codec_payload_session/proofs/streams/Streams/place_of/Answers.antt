@@ -1,10 +1,11 @@
 use Rattle.std.proofs.Common.{◌≡◌, ◌≢◌, ◌∙◌, ◌<◌, ℕ, List, Some, None, length, arith, subst, sym, ap}
 use Rattle.std.specs.List.{position}
 use Rattle.codec_payload_index.specs.Ssrcs.{IsFirstFrom, IsPlaceFrom}
-use Rattle.codec_payload_session.specs.Streams.{StreamState, is_of}
+use Rattle.codec_payload_session_stream.specs.Streams.{StreamState, is_of}
 use Rattle.codec_payload_session.specs.Arrivals.{Port}
-use Rattle.codec_payload_session.specs.Waking.{ssrcs_of}
-use Rattle.codec_payload_session.proofs.SsrcLemmas.{count_of, first_at, found_in, is_not_of, is_of_it, none_at_all, none_before, nowhere, of_ssrc, one_more}
+use Rattle.codec_payload_session_stream.specs.Waking.{ssrcs_of}
+use Rattle.codec_payload_session_stream.proofs.SsrcLemmas.{count_of}
+use Rattle.codec_payload_session.proofs.SsrcLemmas.{first_at, found_in, is_not_of, is_of_it, none_at_all, none_before, nowhere, of_ssrc, one_more}
 use Rattle.codec_payload_session.proofs.streams.Streams.place_of.Goals as goal
 
 pub index-requires : goal.index-requires

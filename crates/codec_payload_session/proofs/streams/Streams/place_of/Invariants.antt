@@ -1,6 +1,6 @@
 use Rattle.std.proofs.Common.{◌≡◌, ◌-◌, ◌≤◌, length, false}
 use Rattle.std.specs.List.{AllWithin}
-use Rattle.codec_payload_session.specs.Streams.{is_of}
+use Rattle.codec_payload_session_stream.specs.Streams.{is_of}
 use Rattle.codec_payload_session.proofs.streams.Streams.place_of.Given as goal
 
 -- no stream so far is this one

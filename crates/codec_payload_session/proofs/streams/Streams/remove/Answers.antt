@@ -1,9 +1,10 @@
 use Rattle.std.proofs.Common.{◌≡◌, ◌∙◌, ◌<◌, ℕ, List, length, ap, arith, subst, sym}
 use Rattle.std.specs.List.{remove}
 use Rattle.codec_payload_session.specs.Arrivals.{Port}
-use Rattle.codec_payload_session.specs.Waking.{ssrcs_of}
-use Rattle.codec_payload_session.proofs.WakingLemmas.{says_bound}
-use Rattle.codec_payload_session.proofs.SsrcLemmas.{count_of, of_removed}
+use Rattle.codec_payload_session_stream.specs.Waking.{ssrcs_of}
+use Rattle.codec_payload_session_stream.proofs.WakingLemmas.{says_bound}
+use Rattle.codec_payload_session_stream.proofs.SsrcLemmas.{count_of}
+use Rattle.codec_payload_session.proofs.SsrcLemmas.{of_removed}
 use Rattle.codec_payload_session.proofs.streams.Streams.remove.Goals as goal
 
 pub remove-requires : goal.remove-requires

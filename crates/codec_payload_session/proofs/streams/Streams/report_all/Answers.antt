@@ -3,7 +3,7 @@ use Rattle.codec_payload_session.specs.Reporting.{blocks_of, bytes_of}
 use Rattle.codec_payload_session.proofs.PacketLemmas.{blocks_length, whole_blocks}
 use Rattle.codec_payload_session.proofs.ReporterLemmas.{few_blocks}
 use Rattle.codec_payload_session.proofs.SsrcLemmas.{forgotten, same_reported}
-use Rattle.codec_payload_session.specs.Waking.{ssrcs_of}
+use Rattle.codec_payload_session_stream.specs.Waking.{ssrcs_of}
 use Rattle.codec_payload_session.proofs.streams.Streams.report_all.Goals as goal
 
 pub write_report-requires-whole : goal.write_report-requires-whole

@@ -1,7 +1,7 @@
 use Rattle.std.proofs.Common.{◌∙◌, ◌<◌, length, ap, subst, sym}
 use Rattle.codec_payload_session.specs.Arrivals.{Port}
-use Rattle.codec_payload_session.specs.Streams.{StreamState}
-use Rattle.codec_payload_session.proofs.WakingLemmas.{says_bound}
+use Rattle.codec_payload_session_stream.specs.Streams.{StreamState}
+use Rattle.codec_payload_session_stream.proofs.WakingLemmas.{says_bound}
 use Rattle.codec_payload_session.proofs.SsrcLemmas.{same_set}
 use Rattle.codec_payload_session.proofs.streams.Streams.report_at.Goals as goal
 

@@ -1,8 +1,8 @@
 use Rattle.std.proofs.Common.{◌≡◌, ◌∙◌, ◌<◌, ℕ, List, Some, length, slice_get, slice_set, ap, subst, sym}
 use Rattle.codec_payload_session.specs.Arrivals.{Port}
 use Rattle.codec_payload_session.specs.Keyframes.{answer_among, asked_among, asked_with}
-use Rattle.codec_payload_session.specs.Streams.{StreamState}
-use Rattle.codec_payload_session.proofs.WakingLemmas.{says_bound}
+use Rattle.codec_payload_session_stream.specs.Streams.{StreamState}
+use Rattle.codec_payload_session_stream.proofs.WakingLemmas.{says_bound}
 use Rattle.codec_payload_session.proofs.KeyframeLemmas.{answer_at, asked_at, asked_ssrc}
 use Rattle.codec_payload_session.proofs.SsrcLemmas.{same_set}
 use Rattle.codec_payload_session.proofs.streams.Streams.request_keyframe_at.Goals as goal

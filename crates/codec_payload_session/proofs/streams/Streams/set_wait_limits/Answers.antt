@@ -1,6 +1,6 @@
 use Rattle.std.proofs.Common.{◌∙◌, ap}
-use Rattle.codec_payload_session.specs.Waking.{ssrcs_of}
-use Rattle.codec_payload_session.specs.Streams.{is_of, waiting_if}
+use Rattle.codec_payload_session_stream.specs.Waking.{ssrcs_of}
+use Rattle.codec_payload_session_stream.specs.Streams.{is_of, waiting_if}
 use Rattle.codec_payload_session.proofs.SsrcLemmas.{forgotten, same_mapped, waiting_when_ssrc}
 use Rattle.codec_payload_session.proofs.streams.Streams.set_wait_limits.Goals as goal
 

@@ -2,13 +2,14 @@ use Rattle.std.proofs.Common.{◌≡◌, ◌∙◌, List, Option, length, ap, re
 use Rattle.std.proofs.lemmas.List.{with_items_is}
 use Rattle.std.specs.Vec.{with_items}
 use Rattle.codec_payload_session.specs.Arrivals.{Port}
-use Rattle.codec_payload_session.specs.Turns.{StepsFirst}
-use Rattle.codec_payload_session.specs.Units.{Turn, turn_to}
+use Rattle.codec_payload_session_stream.specs.Turns.{StepsFirst}
+use Rattle.codec_payload_session_stream.specs.Units.{Turn, turn_to}
 use Rattle.codec_payload_session.specs.Waking.{StepsPort}
-use Rattle.codec_payload_session.specs.declared.stream.StreamState.{StreamState}
-use Rattle.codec_payload_session.specs.Waking.{ssrcs_of}
+use Rattle.codec_payload_session_stream.specs.declared.stream.StreamState.{StreamState}
+use Rattle.codec_payload_session_stream.specs.Waking.{ssrcs_of}
 use Rattle.codec_payload_session.proofs.SsrcLemmas.{kept, step_ssrcs}
-use Rattle.codec_payload_session.proofs.WakingLemmas.{steps_length, steps_port}
+use Rattle.codec_payload_session_stream.proofs.WakingLemmas.{steps_length}
+use Rattle.codec_payload_session.proofs.WakingLemmas.{steps_port}
 use Rattle.codec_payload_session.proofs.streams.Streams.step.Goals as goal
 
 pub returns-then-holds : goal.returns-then-holds

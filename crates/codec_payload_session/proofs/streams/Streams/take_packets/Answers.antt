@@ -1,12 +1,12 @@
 use Rattle.std.proofs.Common.{◌≡◌, ◌∙◌, List, ap, refl, subst, sym}
 use Rattle.codec_payload_rtcp.specs.RtcpReading.{packets_left}
 use Rattle.codec_payload_session.specs.Arrivals.{left_if, say_goodbye}
-use Rattle.codec_payload_session.specs.Reports.{noted, noted_where}
-use Rattle.codec_payload_session.specs.Streams.{StreamState}
-use Rattle.codec_payload_session.specs.Waking.{IsBound, ssrcs_of}
-use Rattle.codec_payload_session.specs.declared.stream.Ending.TheVariants as endings
+use Rattle.codec_payload_session_stream.specs.Reports.{noted, noted_where}
+use Rattle.codec_payload_session_stream.specs.Streams.{StreamState}
+use Rattle.codec_payload_session_stream.specs.Waking.{IsBound, ssrcs_of}
+use Rattle.codec_payload_session_stream.specs.declared.stream.Ending.TheVariants as endings
 use Rattle.codec_payload_session.proofs.SsrcLemmas.{forgotten, kept, left_ssrc, same_mapped}
-use Rattle.codec_payload_session.proofs.WakingLemmas.{bound_noted}
+use Rattle.codec_payload_session_stream.proofs.WakingLemmas.{bound_noted}
 use Rattle.codec_payload_session.proofs.streams.Streams.take_packets.Goals as goal
 
 pub invariant_of-self : goal.invariant_of-self

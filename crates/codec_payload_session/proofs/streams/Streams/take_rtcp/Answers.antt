@@ -3,10 +3,10 @@ use Rattle.codec_payload_rtcp.specs.RtcpPackets.{Packet}
 use Rattle.codec_payload_rtcp.specs.RtcpReading.{compound_at, packets_left}
 use Rattle.codec_payload_rtcp.specs.declared.packet.RtcpError.{RtcpError}
 use Rattle.codec_payload_session.specs.Arrivals.{Port, TakesInAs, goodbye_in, left_where}
-use Rattle.codec_payload_session.specs.Reports.{noted_in}
+use Rattle.codec_payload_session_stream.specs.Reports.{noted_in}
 use Rattle.codec_payload_session_formats.specs.Sorting.{Sorted, sorted_rtcp}
-use Rattle.codec_payload_session.specs.declared.session.Arrival.TheVariants as arrivals
-use Rattle.codec_payload_session.specs.declared.stream.Ending.TheVariants as endings
+use Rattle.codec_payload_session_stream.specs.declared.arrival.Arrival.TheVariants as arrivals
+use Rattle.codec_payload_session_stream.specs.declared.stream.Ending.TheVariants as endings
 use Rattle.codec_payload_session.proofs.streams.Streams.take_rtcp.Goals as goal
 
 pub returns-in-Ok : goal.returns-in-Ok

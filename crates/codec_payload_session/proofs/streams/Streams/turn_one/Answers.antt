@@ -3,10 +3,11 @@ use Rattle.std.specs.Prelude.{⊤}
 use Rattle.codec_payload_metadata.specs.Release.{Release}
 use Rattle.codec_payload_session.specs.Arrivals.{Port}
 use Rattle.codec_payload_session.specs.Turns.{after_step, told_by}
-use Rattle.codec_payload_session.specs.Units.{Turn, event_to, step_to}
+use Rattle.codec_payload_session_stream.specs.Units.{Turn, event_to, step_to}
 use Rattle.codec_payload_session.specs.Waking.{StepsPort}
-use Rattle.codec_payload_session.specs.declared.session.Event.{Event as EventWith}
-use Rattle.codec_payload_session.proofs.QuietLemmas.{place_within, turn_tells}
+use Rattle.codec_payload_session_stream.specs.declared.events.Event.{Event as EventWith}
+use Rattle.codec_payload_session_stream.proofs.QuietLemmas.{place_within}
+use Rattle.codec_payload_session.proofs.QuietLemmas.{turn_tells}
 use Rattle.codec_payload_session.proofs.UnitLemmas.{after_to, told_to}
 use Rattle.codec_payload_session.proofs.streams.Streams.turn_one.Goals as goal
 

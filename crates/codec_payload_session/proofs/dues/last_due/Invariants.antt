@@ -1,6 +1,0 @@
-use Rattle.std.proofs.Common.{◌≡◌, drop}
-use Rattle.codec_payload_session.specs.Streams.{due_in, earlier}
-use Rattle.codec_payload_session.proofs.dues.last_due.Given as goal
-
-abbrev pub invariant-loop-stream : goal.invariant-loop-stream
-invariant-loop-stream l = earlier l.due (due_in l.idle_timeout (drop l.stream-index l.streams)) ≡ due_in l.idle_timeout l.streams

@@ -1,6 +1,0 @@
-use Rattle.std.proofs.Common.{take}
-use Rattle.codec_payload_session.specs.Renegotiation.{IsGone}
-use Rattle.codec_payload_session.proofs.renegotiation.has_format.Given as goal
-
-abbrev pub invariant-loop-other : goal.invariant-loop-other
-invariant-loop-other l = IsGone l.format (take l.other-index l.formats)

@@ -1,5 +1,0 @@
-use Rattle.codec_payload_session.proofs.RenegotiationLemmas.{Reaches}
-use Rattle.codec_payload_session.proofs.renegotiation.leave_formats.Given as goal
-
-abbrev pub invariant-loop-place : goal.invariant-loop-place
-invariant-loop-place l = Reaches l.formats l.at l.initial.streams l.place l.streams

@@ -1,0 +1,13 @@
+pub mod Arrivals
+pub mod Changes
+pub mod Dues
+pub mod Events
+pub mod Pairs
+pub mod Quiet
+pub mod Renegotiation
+pub mod Reports
+pub mod Streams
+pub mod Telephone
+pub mod Turns
+pub mod Units
+pub mod Waking
