@@ -8,7 +8,7 @@ use Rattle.codec_payload_sending_history.specs.Originals.{WritesOriginal}
 use Rattle.codec_payload_sending_history.specs.declared.original.OriginalStream.{OriginalStream}
 use Rattle.codec_payload_session.specs.Accepting.{Accepts, time_for}
 use Rattle.codec_payload_session.specs.Ports.{Session}
-use Rattle.codec_payload_session.specs.declared.session.Arrival.{Arrival}
+use Rattle.codec_payload_session_stream.specs.declared.arrival.Arrival.{Arrival}
 use Rattle.codec_payload_forward_runs.specs.ForwardRuns.{Hops}
 use Rattle.codec_payload_forward_runs.specs.declared.run.ForwardStep.{ForwardStep}
 use Rattle.codec_payload_forward_runs.specs.declared.run.ForwardStep.TheVariants as plain
