@@ -9,4 +9,5 @@ pub mod ServedReleases
 pub mod ServedStoreReleases
 pub mod ServingArrivals
 pub mod ServingLemmas
+pub mod ServingSessions
 pub mod StoreServing

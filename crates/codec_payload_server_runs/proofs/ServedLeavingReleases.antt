@@ -17,7 +17,8 @@ use Rattle.codec_payload_forward_runs.specs.declared.leave_run.LeaveStep.{LeaveS
 use Rattle.codec_payload_forward_runs.specs.declared.run.ForwardStep.{ForwardStep}
 use Rattle.codec_payload_forward_runs.specs.declared.run.ForwardStep.TheVariants as plain
 use Rattle.codec_payload_server_runs.proofs.ServeLemmas.{Keeps, keeps_comes, keeps_same}
-use Rattle.codec_payload_server_runs.proofs.ServingLemmas.{AllKeep, IsBehind, as_session, follows, is_hop}
+use Rattle.codec_payload_server_runs.proofs.ServingLemmas.{AllKeep, IsBehind, follows, is_hop}
+use Rattle.codec_payload_server_runs.proofs.ServingSessions.{as_session}
 use Rattle.codec_payload_server_runs.specs.ServeLeaveReleases.{ReleasesServedLeavingOut, ServesKept, ServesLeavingAsSession, UnwrapsLeaving, leaving_steps_of}
 use Rattle.codec_payload_server_runs.specs.ServeLeaveRuns.{DoesLeavingOut, PassesOrIsLeftOut, ServeLeaveRuns, begins_serving_leaving_out, hops_in, left_as, step_of}
 use Rattle.codec_payload_server_runs.specs.Serving.{Follow, Serving}

@@ -18,7 +18,8 @@ use Rattle.codec_payload_forward_runs.specs.declared.run.ForwardStep.TheVariants
 use Rattle.codec_payload_forward_runs.specs.declared.store_run.StoreStep.{StoreStep}
 use Rattle.codec_payload_forward_runs.specs.declared.store_run.StoreStep.TheVariants as stored
 use Rattle.codec_payload_server_runs.proofs.ServeLemmas.{Keeps, keeps_comes, keeps_same}
-use Rattle.codec_payload_server_runs.proofs.ServingLemmas.{AllKeep, IsBehind, as_session, follows, is_hop}
+use Rattle.codec_payload_server_runs.proofs.ServingLemmas.{AllKeep, IsBehind, follows, is_hop}
+use Rattle.codec_payload_server_runs.proofs.ServingSessions.{as_session}
 use Rattle.codec_payload_server_runs.specs.ServeStoreReleases.{ReleasesServedWithStore, ServesStoreAsSession, UnwrapsStored, stored_steps_of}
 use Rattle.codec_payload_server_runs.specs.ServeStoreRuns.{DoesServeStoreStep, DoesWithStore, PassesToStore, ServeStoreRuns, begins_serving_with_store, hops_in, step_of, stored_as}
 use Rattle.codec_payload_server_runs.specs.Serving.{Follow, Serving}

@@ -9,8 +9,7 @@ use Rattle.codec_payload_rtp.specs.RtpPackets.{IsRtp, Packet}
 use Rattle.codec_payload_sending.specs.Senders.{Sending}
 use Rattle.codec_payload_sending_history.specs.declared.original.OriginalStream.{OriginalStream}
 use Rattle.codec_payload_sending_history.specs.declared.retransmission.RetransmissionStream.{RetransmissionStream}
-use Rattle.codec_payload_session.specs.Ports.{Session, new_session}
-use Rattle.codec_payload_session_formats.specs.declared.formats.SessionSettings.{SessionSettings}
+use Rattle.codec_payload_session.specs.Ports.{Session}
 use Rattle.codec_payload_datagram_runs.specs.Releases.{sends_after, sent_after}
 use Rattle.codec_payload_datagram_runs.specs.WireRuns.{DoesStep, Wire}
 use Rattle.codec_payload_datagram_runs.specs.declared.run.DatagramStep.TheVariants as wires
@@ -18,15 +17,14 @@ use Rattle.codec_payload_datagram_runs.specs.declared.run.SentSample.{SentSample
 use Rattle.codec_payload_forward_runs.specs.ForwardRuns.{DoesForwardStep, Hops, packet_in, packet_read}
 use Rattle.codec_payload_forward_runs.specs.declared.run.ForwardStep.{ForwardStep}
 use Rattle.codec_payload_forward_runs.specs.declared.run.ForwardStep.TheVariants as plain
-use Rattle.codec_payload_session_runs.proofs.ReachedLemmas.{each_ended, reached}
-use Rattle.codec_payload_session_runs.specs.SessionRuns.{Call, Does, Runs}
+use Rattle.codec_payload_session_runs.specs.SessionRuns.{Call, Runs}
 use Rattle.codec_payload_session_runs.specs.declared.run.SessionStep.{SessionStep}
 use Rattle.codec_payload_session_runs.specs.declared.run.SessionStep.TheVariants as calls
 use Rattle.codec_payload_session_runs.specs.declared.run.StepAnswer.{StepAnswer}
 use Rattle.codec_payload_session_runs.specs.declared.run.StepAnswer.TheVariants as answers
 use Rattle.codec_payload_server_runs.proofs.SenderPackets.{AllOf, IsOf, SendsItsOwn, of_at, same_bytes, sends_own, stream_of}
 use Rattle.codec_payload_server_runs.proofs.ServeLemmas.{IsMore, Keeps, Sent, and_false, keeps_delivered, keeps_same, keeps_wire, more_none, more_on, own_kept, past_end, sent_step, taken_of}
-use Rattle.codec_payload_server_runs.specs.ServeReleases.{AreCalls, ServesAsSession, UnwrapsSender, has_repeats, passed_by, says_taken}
+use Rattle.codec_payload_server_runs.specs.ServeReleases.{AreCalls, UnwrapsSender, has_repeats, passed_by, says_taken}
 use Rattle.codec_payload_server_runs.specs.ServeRuns.{IsAgain, Served, fits_in, repeated_in}
 use Rattle.codec_payload_server_runs.specs.Serving.{ComesTo, DoesBehind, DoesServing, Follow, IsSpelled, PassesIf, PassesUnwrapped, Serving, ServingStep, Takes, served_in, serves, unseen}
 use Rattle.codec_payload_server_runs.specs.ServingReleases.{as_steps, served_steps, steps_behind}
@@ -384,14 +382,14 @@ module _ {X F : Type 0} (hops_in : X → Hops) (Passes : Bool → ℕ → List �
     -- A whole run, before which nothing was sent
     module _ (all_steps : List (ServingStep F)) (s t : Serving X) (keep : AllKeep all_steps) (no_datagrams : (wire_in s).datagrams ≡ []) (no_sends : (wire_in s).sends ≡ []) (no_answers : s.answers ≡ [])
         (run : Follow DoesOne all_steps s t) where
-      parts : Splits 0 all_steps s t
+      pub parts : Splits 0 all_steps s t
       parts =
           splits all_steps 0 s t keep (ap (λ (ds : List (List ℕ)). length ds) no_datagrams) (subst (AllOf (stream_of (wire_in s))) (sym no_datagrams) tt) run
 
-      all_sends : (wire_in t).sends ≡ parts.later
+      pub all_sends : (wire_in t).sends ≡ parts.later
       all_sends = parts.sends ∙ ap (λ (es : List SentSample). es ++ parts.later) no_sends
 
-      all_told : t.answers ≡ parts.gained
+      pub all_told : t.answers ≡ parts.gained
       all_told = parts.told ∙ ap (λ (rs : List StepAnswer). rs ++ parts.gained) no_answers
 
       -- the run behind the session
@@ -399,15 +397,3 @@ module _ {X F : Type 0} (hops_in : X → Hops) (Passes : Bool → ℕ → List �
       follows own =
           subst (λ (es : List SentSample). Follow DoesIt (steps_behind seen_as stream samples 0 all_steps es t.answers) s.behind t.behind) (sym all_sends)
           (subst (λ (rs : List StepAnswer). Follow DoesIt (steps_behind seen_as stream samples 0 all_steps parts.later rs) s.behind t.behind) (sym all_told) (parts.follows own))
-
-      -- the run of the session
-      pub as_session : ServesAsSession stream samples (served_steps all_steps) (served_in hops_in s) (served_in hops_in t)
-      as_session = record {
-        made = parts.made;
-        are = subst (λ (es : List SentSample). AreCalls stream samples (wire_in t).datagrams 0 (served_steps all_steps) es parts.made) (sym all_sends) parts.are;
-        answered = parts.answered ∙ sym all_told;
-        runs = parts.runs;
-        alone = λ settings is. (reached settings parts.made t.server (subst (λ (x : Session). Runs parts.made x t.server) is parts.runs)).alone;
-        ended = λ settings is. each_ended settings parts.made t.server (subst (λ (x : Session). Runs parts.made x t.server) is parts.runs);
-        order = λ settings is. (reached settings parts.made t.server (subst (λ (x : Session). Runs parts.made x t.server) is parts.runs)).order;
-      }

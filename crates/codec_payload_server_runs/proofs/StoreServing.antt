@@ -1,24 +1,25 @@
 -- What the store and the forwarder of a media server do with a datagram that passes on, from the step of a run with both.
-use Rattle.std.proofs.Common.{◌≡◌, subst, ℕ, List, [], inl, inr, Bool, true, false, Option, Some}
+use Rattle.std.proofs.Common.{◌≡◌, subst, ℕ, List, inl, inr, Bool, true, false, Option, Some}
 use Rattle.std.specs.Prelude.{slice_get}
+use Rattle.codec_payload_payloader.specs.Sending.{Sample}
 use Rattle.codec_payload_forward_runs.specs.ForwardRuns.{Comes, packet_in}
 use Rattle.codec_payload_forward_runs.specs.StoreRuns.{DoesStoreStep, KeepsPacket, StoreStopsAt, Stored}
 use Rattle.codec_payload_forward_runs.specs.declared.run.ForwardStep.TheVariants as plain
 use Rattle.codec_payload_server_runs.specs.ServeStoreRuns.{Left, PassesToStore, StopsPassing, stored_as}
 
-pub passes_of : (m : Bool) (k time : ℕ) (datagram : List ℕ) (s t : Stored) → slice_get s.hops.wire.datagrams k ≡ Some datagram → DoesStoreStep [] (stored_as (plain.Forward k time) m) s t
+pub passes_of : (samples : List Sample) (m : Bool) (k time : ℕ) (datagram : List ℕ) (s t : Stored) → slice_get s.hops.wire.datagrams k ≡ Some datagram → DoesStoreStep samples (stored_as (plain.Forward k time) m) s t
     → PassesToStore m time datagram s t
-passes_of true k time datagram s t there does = (
+passes_of samples true k time datagram s t there does = (
   does.0,
   does.1,
   subst (λ (o : Option (List ℕ)). KeepsPacket o s.store does.0) there does.2,
   subst (λ (o : Option (List ℕ)). Comes (packet_in o) time s.hops does.1) there does.3,
   does.4,
 )
-passes_of false k time datagram s t there does = (does.0, subst (λ (o : Option (List ℕ)). KeepsPacket o s.store does.0) there does.1, does.2)
+passes_of samples false k time datagram s t there does = (does.0, subst (λ (o : Option (List ℕ)). KeepsPacket o s.store does.0) there does.1, does.2)
 
-pub stops_of : (m : Bool) (k time : ℕ) (datagram : List ℕ) (s : Stored) (left : Left) → slice_get s.hops.wire.datagrams k ≡ Some datagram
-    → StoreStopsAt [] (stored_as (plain.Forward k time) m) s left.sending left.forwarder left.receiver left.store → StopsPassing left m datagram s
-stops_of true k time datagram s left there (inl same) = inl same
-stops_of true k time datagram s left there (inr kept) = inr (subst (λ (o : Option (List ℕ)). KeepsPacket o s.store left.store) there kept.0, kept.1)
-stops_of false k time datagram s left there same = same
+pub stops_of : (samples : List Sample) (m : Bool) (k time : ℕ) (datagram : List ℕ) (s : Stored) (left : Left) → slice_get s.hops.wire.datagrams k ≡ Some datagram
+    → StoreStopsAt samples (stored_as (plain.Forward k time) m) s left.sending left.forwarder left.receiver left.store → StopsPassing left m datagram s
+stops_of samples true k time datagram s left there (inl same) = inl same
+stops_of samples true k time datagram s left there (inr kept) = inr (subst (λ (o : Option (List ℕ)). KeepsPacket o s.store left.store) there kept.0, kept.1)
+stops_of samples false k time datagram s left there same = same

@@ -1,5 +1,6 @@
 //! Theorems on runs of a media server. These functions exist for their proofs and do nothing.
 
+ghost use Rattle.std.specs.Prelude.{◌≡◌, ℕ};
 ghost use Rattle.codec_payload_server_runs.specs.ServeRunExample.{ServingCanBeMet};
 ghost use Rattle.codec_payload_server_runs.specs.ServeStoreRunExample.{ServingWithStoreCanBeMet};
 
@@ -13,4 +14,8 @@ pub fn serving_premises_can_be_met()
 /// and comes as a retransmission. It is lost on the second hop too, and the viewer gets it from the store, before the stream ends.
 pub fn serving_with_store_premises_can_be_met()
     ensures { ServingWithStoreCanBeMet }
+{}
+
+pub fn probe()
+    ensures { ◌≡◌ {A = ℕ} 1 1 }
 {}
