@@ -34,6 +34,7 @@ mod sort;
 pub mod stream;
 mod streams;
 mod telephone;
+mod times;
 mod transport;
 mod transports;
 mod waking;

@@ -15,7 +15,7 @@ HOMES = {"numbers": {"noted_times": "jitter", "numbers": "jitter", "seen_times":
          "datagrams": {"choice": "receiver", "kinds": "receiver", "parsed": "receiver"},
          "session_formats": {"checks": "session", "formats": "session", "names": "session", "sort": "session"},
          "session_requests": {"late": "session", "named": "session", "requests": "session", "transports": "session"},
-         "session_stream": {"arrival": "session", "changes": "session", "dues": "session", "events": "session", "pairs": "session", "renegotiation": "session", "reports": "session", "stream": "session", "telephone": "session", "waking": "session"}}
+         "session_stream": {"arrival": "session", "changes": "session", "dues": "session", "events": "session", "pairs": "session", "renegotiation": "session", "reports": "session", "stream": "session", "telephone": "session", "times": "session", "waking": "session"}}
 # Names of lower crates that are public for the crates above alone. In the one crate no user sees them.
 WITHIN_CRATE = {
     ("metadata", "known.rt"): "are_plain drop_rare is_plain last_sender_info marker number plain_meta received seq_no take time values",
@@ -41,8 +41,9 @@ WITHIN_CRATE = {
     ("session_stream", "pairs.rt"): "pair remove_pair with_pair",
     ("session_stream", "renegotiation.rt"): "leave_formats",
     ("session_stream", "reports.rt"): "note_packet peek_report report start_fraction",
-    ("session_stream", "stream.rt"): "Step StreamState Turn begin earlier info is_former is_left_behind is_no_memory is_nothing is_on_probation is_playing leave_if request_keyframe step take wait_if",
+    ("session_stream", "stream.rt"): "Step StreamState Turn begin info is_former is_left_behind is_no_memory is_nothing is_on_probation is_playing leave_if request_keyframe step take wait_if",
     ("session_stream", "telephone.rt"): "Noted TelephonePacket TelephoneQueue dropped is_empty none note settle take",
+    ("session_stream", "times.rt"): "earlier",
     ("session_stream", "waking.rt"): "Waking except find forget grow holds step_due step_excepted unknown",
 }
 # Modules with another name in the one crate.

@@ -1,5 +1,6 @@
 -- Events whose unit is in memory of the caller, with that unit.
 use Rattle.std.proofs.Common.{◌≡◌, ◌∙◌, refl, ap, ℕ, Option, Some, None}
+use Rattle.std.specs.Prelude.{⊤}
 use Rattle.codec_payload_metadata.specs.Release.{Release}
 use Rattle.codec_payload_session.specs.Arrivals.{Port}
 use Rattle.codec_payload_session.specs.Polls.{SendsReport, SendsTransport}

@@ -93,11 +93,11 @@ quiet_in now idle xs ys quiet i d t step within are is went tells =
 
 pub slice_at : (xs : List StreamState) (s : StreamState) (ys : List StreamState) → slice_get (xs ++ s ∷ ys) (length xs) ≡ Some s
 slice_at [] s ys = refl
-pub slice_at (x ∷ xs) s ys = slice_at xs s ys
+slice_at (x ∷ xs) s ys = slice_at xs s ys
 
 pub remove_at : (xs : List StreamState) (s : StreamState) (ys : List StreamState) → remove (xs ++ s ∷ ys) (length xs) ≡ xs ++ ys
 remove_at [] s ys = refl
-pub remove_at (x ∷ xs) s ys = ap (λ (l : List StreamState). x ∷ l) (remove_at xs s ys)
+remove_at (x ∷ xs) s ys = ap (λ (l : List StreamState). x ∷ l) (remove_at xs s ys)
 
 within_at : (xs : List StreamState) (s : StreamState) (ys : List StreamState) → length xs < length (xs ++ s ∷ ys)
 within_at [] s ys = omega arith

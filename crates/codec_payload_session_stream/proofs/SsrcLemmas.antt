@@ -7,11 +7,11 @@ use Rattle.codec_payload_session_stream.specs.Waking.{ssrcs_of}
 
 pub count_of : (ss : List StreamState) → length (ssrcs_of ss) ≡ length ss
 count_of [] = refl
-pub count_of (s ∷ ss) = ap suc (count_of ss)
+count_of (s ∷ ss) = ap suc (count_of ss)
 
 -- ---- what the list finds
 
 pub ssrc_at : (ss : List StreamState) (k : ℕ) (d : StreamState) → k < length ss → get_or (ssrcs_of ss) k 0 ≡ (get_or ss k d).ssrc
 ssrc_at [] k d within = absurd (omega (arith, within))
-pub ssrc_at (s ∷ ss) zero d within = refl
-pub ssrc_at (s ∷ ss) (suc k) d within = ssrc_at ss k d (omega (arith, within))
+ssrc_at (s ∷ ss) zero d within = refl
+ssrc_at (s ∷ ss) (suc k) d within = ssrc_at ss k d (omega (arith, within))

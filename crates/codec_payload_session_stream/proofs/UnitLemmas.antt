@@ -1,5 +1,6 @@
 -- Answers whose unit is in memory of the caller, with that unit.
 use Rattle.std.proofs.Common.{◌≡◌, ◌∙◌, refl, ap, ℕ, List, [], ◌∷◌, Option, Some, None, Result, Ok, Err}
+use Rattle.std.specs.Prelude.{⊤}
 use Rattle.std.specs.Global.{Vec}
 use Rattle.std.specs.declared.alloc.AllocError.{AllocError}
 use Rattle.codec_payload_metadata.specs.Release.{Release}
@@ -78,8 +79,8 @@ gives_to q r event unit got = gives_from_to q.waiting q r event unit got
 
 pub report_to : (packet : Option (Result (Vec ℕ) AllocError)) (unit : Release) → event_to (report_event packet) unit ≡ report_event packet
 report_to None unit = refl
-pub report_to (Some packet) unit = refl
+report_to (Some packet) unit = refl
 
 pub transport_to : (packet : Option (Result (Vec ℕ) AllocError)) (unit : Release) → event_to (transport_event packet) unit ≡ transport_event packet
 transport_to None unit = refl
-pub transport_to (Some packet) unit = refl
+transport_to (Some packet) unit = refl

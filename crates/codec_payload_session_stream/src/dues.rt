@@ -6,7 +6,8 @@ ghost use Rattle.codec_payload_session_stream.specs.Dues.{HasKey, keys_of};
 ghost use Rattle.codec_payload_session_stream.specs.Streams.{due_in};
 ghost use Rattle.codec_payload_session_stream.specs.Waking.{IsBound, or_max};
 
-use crate::stream::{LAST_KEY, StreamState, earlier};
+use crate::stream::StreamState;
+use crate::times::{LAST_KEY, earlier};
 use crate::waking::Waking;
 
 /// Returns when a stream may have an event without a datagram.

@@ -10,4 +10,5 @@ pub mod renegotiation;
 pub mod reports;
 pub mod stream;
 pub mod telephone;
+pub mod times;
 pub mod waking;

@@ -6,10 +6,10 @@ ghost use Rattle.codec_payload_session_stream.specs.Changes.{is_left_behind, is_
 ghost use Rattle.codec_payload_session_formats.specs.Checks.{can_begin};
 ghost use Rattle.codec_payload_session_stream.specs.Dues.{key_of};
 ghost use Rattle.codec_payload_session_stream.specs.Pairs.{paired_if};
-ghost use Rattle.codec_payload_session_stream.specs.Quiet.{RestsUntil, or_none, time_of};
+ghost use Rattle.codec_payload_session_stream.specs.Quiet.{RestsUntil};
 ghost use Rattle.codec_payload_session_requests.specs.Requests.{IsCalm, wait_by};
 ghost use Rattle.codec_payload_rtp.specs.RtpReading.{rtp_at};
-ghost use Rattle.codec_payload_session_stream.specs.Streams.{Begins, Drains, IsInfo, Pops, RequestsBy, RestsBy, Steps, Takes, answer_for, asked_for, due_of, earlier, end_of, heard, heard_unless, is_accepted, is_ending, is_former, is_keyframe, is_no_memory, is_of, is_probation, late_followed, left, left_when, payload_size, received, step_of, step_with, waiting_for, waiting_if, work_deadline};
+ghost use Rattle.codec_payload_session_stream.specs.Streams.{Begins, Drains, IsInfo, Pops, RequestsBy, RestsBy, Steps, Takes, answer_for, asked_for, due_of, end_of, heard, heard_unless, is_accepted, is_ending, is_former, is_keyframe, is_no_memory, is_of, is_probation, late_followed, left, left_when, payload_size, received, step_of, step_with, waiting_for, waiting_if, work_deadline};
 ghost use Rattle.codec_payload_session_stream.specs.Turns.{is_nothing};
 ghost use Rattle.codec_payload_session_stream.specs.Units.{step_to};
 ghost use Rattle.codec_payload_session_stream.specs.Waking.{WakesAt, or_max};
@@ -17,6 +17,7 @@ ghost use Rattle.codec_payload_session_stream.specs.declared.stream.Step.TheVari
 
 use crate::changes::{are_alike, takes_turns};
 use crate::reports::SenderClock;
+use crate::times::{LAST_KEY, earlier, key_of, or_max, or_none, time_of};
 use codec_payload_base::error::PacketError;
 use codec_payload_base::wire::Ticks;
 use codec_payload_buffer::buffer::PoppedUnit;
@@ -40,9 +41,6 @@ use codec_payload_session_requests::requests::{
 };
 use std::alloc::{AllocError, Global};
 use std::marker::Model;
-
-/// The two last times in a list of times.
-pub(crate) const LAST_KEY: u64 = u64::MAX - 1;
 
 /// Why a stream ended.
 #[derive(Clone, Copy, Debug, PartialEq, Eq)]
@@ -715,37 +713,6 @@ fn is_keyframe(popped: &Result<Popped<()>, AllocError>, receiver: &Receiver) -> 
     matches!(popped, Ok(Popped::Unit(()))) && receiver.unit_is_keyframe()
 }
 
-/// Returns the time. 0 is none.
-fn time_of(at: u64) -> Option<u64>
-    ensures { result ≡ time_of at }
-{
-    if at == 0 { None } else { Some(at) }
-}
-
-/// Returns the time as a number. 0 is none.
-fn or_none(time: Option<u64>) -> u64
-    ensures { result ≡ or_none time }
-{
-    time.unwrap_or(0)
-}
-
-/// Returns the time, or 2^64 - 1 without one.
-fn or_max(time: Option<u64>) -> u64
-    ensures { result ≡ or_max time }
-{
-    time.unwrap_or(u64::MAX)
-}
-
-/// Returns the time as a number of a list of times.
-fn key_of(time: Option<u64>) -> u64
-    ensures { result ≡ key_of time }
-{
-    match time {
-        Some(at) => at.min(LAST_KEY),
-        None => u64::MAX,
-    }
-}
-
 /// Returns whether a step has no event.
 #[inline(always)]
 pub fn is_nothing(step: &Step<()>) -> bool
@@ -796,15 +763,4 @@ fn is_accepted(answer: &Result<Outcome, ReceiveError>) -> bool
         answer,
         Ok(Outcome::Held | Outcome::HeldAndEvicted | Outcome::Restarted(_) | Outcome::NoMedia)
     )
-}
-
-/// Returns the earlier of two times.
-pub fn earlier(one: Option<u64>, other: Option<u64>) -> Option<u64>
-    ensures { result ≡ earlier one other }
-{
-    match (one, other) {
-        (Some(one), Some(other)) => Some(one.min(other)),
-        (Some(one), None) => Some(one),
-        (None, other) => other,
-    }
 }

@@ -2,7 +2,8 @@
 
 //! When the streams of a session may have an event without a datagram.
 
-use crate::session::stream::{LAST_KEY, StreamState, earlier};
+use crate::session::stream::StreamState;
+use crate::session::times::{LAST_KEY, earlier};
 use crate::session::waking::Waking;
 
 /// Returns when a stream may have an event without a datagram.

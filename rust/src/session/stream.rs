@@ -19,15 +19,13 @@ use crate::session::requests::{
     Feedback, KeyframeAnswer, answer_if, ask_keyframe, hear, request_counts, requests_due,
     rest_time, round_trip, wait_by,
 };
+use crate::session::times::{LAST_KEY, earlier, key_of, or_max, or_none, time_of};
 use crate::stream::parsed::ParsedDatagram;
 use crate::stream::pops::Popped;
 use crate::stream::receiver::{Counters, ReceiveError, Receiver};
 use crate::waiting::adaptive_wait::AdaptiveWait;
 use crate::wire::Ticks;
 use alloc::vec::Vec;
-
-/// The two last times in a list of times.
-pub(crate) const LAST_KEY: u64 = u64::MAX - 1;
 
 /// Why a stream ended.
 #[derive(Clone, Copy, Debug, PartialEq, Eq)]
@@ -591,29 +589,6 @@ fn is_keyframe(popped: &Result<Popped<()>, AllocError>, receiver: &Receiver) -> 
     matches!(popped, Ok(Popped::Unit(()))) && receiver.unit_is_keyframe()
 }
 
-/// Returns the time. 0 is none.
-fn time_of(at: u64) -> Option<u64> {
-    if at == 0 { None } else { Some(at) }
-}
-
-/// Returns the time as a number. 0 is none.
-fn or_none(time: Option<u64>) -> u64 {
-    time.unwrap_or(0)
-}
-
-/// Returns the time, or 2^64 - 1 without one.
-fn or_max(time: Option<u64>) -> u64 {
-    time.unwrap_or(u64::MAX)
-}
-
-/// Returns the time as a number of a list of times.
-fn key_of(time: Option<u64>) -> u64 {
-    match time {
-        Some(at) => at.min(LAST_KEY),
-        None => u64::MAX,
-    }
-}
-
 /// Returns whether a step has no event.
 #[inline(always)]
 pub(crate) fn is_nothing(step: &Step<()>) -> bool {
@@ -654,13 +629,4 @@ fn is_accepted(answer: &Result<Outcome, ReceiveError>) -> bool {
         answer,
         Ok(Outcome::Held | Outcome::HeldAndEvicted | Outcome::Restarted(_) | Outcome::NoMedia)
     )
-}
-
-/// Returns the earlier of two times.
-pub(crate) fn earlier(one: Option<u64>, other: Option<u64>) -> Option<u64> {
-    match (one, other) {
-        (Some(one), Some(other)) => Some(one.min(other)),
-        (Some(one), None) => Some(one),
-        (None, other) => other,
-    }
 }

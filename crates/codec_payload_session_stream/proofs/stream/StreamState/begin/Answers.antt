@@ -25,6 +25,7 @@ returns c = record {
   told = refl;
   taken = refl;
   accepted = refl;
+  bytes = refl;
   last = refl;
   feedback =
       c.in_ok-feedback.ensures
