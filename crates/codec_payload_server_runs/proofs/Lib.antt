@@ -1,6 +1,8 @@
 pub mod ArrivalLemmas
+pub mod LeaveServing
 pub mod SenderPackets
 pub mod SentAt
+pub mod ServeLeaveRunExamples
 pub mod ServeLemmas
 pub mod ServeRunExamples
 pub mod ServeStoreRunExamples

@@ -1,4 +1,5 @@
 pub mod ServeLeaveReleases
+pub mod ServeLeaveRunExample
 pub mod ServeLeaveRuns
 pub mod ServeReleases
 pub mod ServeRunExample
