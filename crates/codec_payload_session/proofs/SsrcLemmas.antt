@@ -14,7 +14,8 @@ use Rattle.codec_payload_jitter.specs.declared.outcome.Outcome.{Outcome}
 use Rattle.codec_payload_receiver.specs.declared.receiver.ReceiveError.{ReceiveError}
 use Rattle.codec_payload_receiver.specs.Sessions.{Session as Receiver}
 use Rattle.std.specs.declared.result.Result.{Result}
-use Rattle.codec_payload_session_stream.specs.Streams.{Drains, RequestsBy, RestsBy, Steps, StepsBy, is_of, Follows, StreamState, Takes, end_of, heard_unless, is_accepted, is_no_memory, is_probation, late_followed, late_noted, left_when, received, waiting_for, waiting_when}
+use Rattle.codec_payload_rtp.specs.RtpReading.{rtp_at}
+use Rattle.codec_payload_session_stream.specs.Streams.{Drains, RequestsBy, RestsBy, Steps, StepsBy, is_of, Follows, StreamState, Takes, end_of, heard_unless, is_accepted, is_no_memory, is_probation, late_followed, late_noted, left_when, payload_size, received, waiting_for, waiting_when}
 use Rattle.codec_payload_jitter.specs.declared.jitter.WaitLimits.{WaitLimits}
 use Rattle.codec_payload_session.specs.Arrivals.{has_ssrc}
 use Rattle.codec_payload_session_stream.specs.Changes.{any_left_behind, are_alike, continued, is_left_behind, is_playing, left_behind, takes_turns}
@@ -96,14 +97,14 @@ late_ssrc : (b : Bool) (now : ℕ) (bytes : List ℕ) (s : StreamState) → (lat
 late_ssrc true now bytes s = waiting_ssrc (limit_by (late_noted now bytes s).late) (late_noted now bytes s)
 late_ssrc false now bytes s = refl
 
-heard_ssrc : (b : Bool) (now probation : ℕ) (accepted : Bool) (s : StreamState) → (heard_unless b now probation accepted s).ssrc ≡ s.ssrc
-heard_ssrc true now probation accepted s = refl
-heard_ssrc false now probation accepted s = refl
+heard_ssrc : (b : Bool) (now probation : ℕ) (accepted : Bool) (size : ℕ) (s : StreamState) → (heard_unless b now probation accepted size s).ssrc ≡ s.ssrc
+heard_ssrc true now probation accepted size s = refl
+heard_ssrc false now probation accepted size s = refl
 
 pub takes_ssrc : (now : Ticks) (probation : ℕ) (bytes : List ℕ) (s : StreamState) (answer : Result Outcome ReceiveError) (t : StreamState) → Takes now probation bytes s answer t → t.ssrc ≡ s.ssrc
 takes_ssrc now probation bytes s answer t got =
     let r : StreamState = received now.0 bytes (is_accepted answer) got.0 s in
-    ap (λ (x : StreamState). x.ssrc) got.2 ∙ heard_ssrc (is_no_memory answer) now.0 probation (is_accepted answer) (late_followed (is_ok answer) now.0 bytes r)
+    ap (λ (x : StreamState). x.ssrc) got.2 ∙ heard_ssrc (is_no_memory answer) now.0 probation (is_accepted answer) (payload_size (rtp_at bytes)) (late_followed (is_ok answer) now.0 bytes r)
     ∙ late_ssrc (is_ok answer) now.0 bytes r
     ∙ received_ssrc now.0 bytes (is_accepted answer) got.0 s
 
