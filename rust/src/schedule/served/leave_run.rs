@@ -124,14 +124,19 @@ fn arrive<P: Packetizer, D: Depacketizer>(
     if !taken {
         return Ok(());
     }
+    let step = passing_step(coming);
+    do_leave_step(&mut link.link, &[], step, &mut run.run)
+}
+
+/// Returns the step of the run behind the session that passes the datagram on.
+fn passing_step(coming: Coming) -> LeaveStep {
     let datagram = coming.datagram;
-    let step = if coming.plain {
+    if coming.plain {
         let now = coming.at.time;
         LeaveStep::Plain(ForwardStep::Forward { datagram, now })
     } else {
         LeaveStep::LeaveOut { datagram }
-    };
-    do_leave_step(&mut link.link, &[], step, &mut run.run)
+    }
 }
 
 /// The retransmission comes to the session, and what it repeats may come to the forwarder.

@@ -173,14 +173,19 @@ fn arrive<P: Packetizer, D: Depacketizer>(
     if !taken {
         return Ok(());
     }
+    let step = passing_step(coming);
+    do_store_step(&mut link.link, &[], step, &mut run.run)
+}
+
+/// Returns the step of the run with a store that passes the datagram on.
+fn passing_step(coming: Coming) -> StoreStep {
     let datagram = coming.datagram;
-    let step = if coming.plain {
+    if coming.plain {
         let now = coming.at.time;
         StoreStep::Plain(ForwardStep::Forward { datagram, now })
     } else {
         StoreStep::Keep { datagram }
-    };
-    do_store_step(&mut link.link, &[], step, &mut run.run)
+    }
 }
 
 /// The retransmission comes to the session, and what it repeats may come to the store and to the forwarder.
