@@ -1,7 +1,8 @@
 -- What a step of a media server does, from the calls that it makes.
 use Rattle.std.specs.Global.{Vec}
-use Rattle.std.proofs.Common.{◌≡◌, ◌∙◌, refl, sym, ap, subst, ℕ, List, [], ◌∷◌, ◌++◌, inl, inr, Bool, true, false, Option, Some, None, MatchOption}
-use Rattle.std.specs.Prelude.{slice_get}
+use Rattle.std.proofs.Common.{◌≡◌, ◌∙◌, refl, sym, ap, subst, ℕ, List, [], ◌∷◌, ◌++◌, inl, inr, Bool, true, false, Option, Some, None, MatchOption, Result, Ok, Err}
+use Rattle.std.specs.Prelude.{IfOk}
+use Rattle.std.specs.declared.alloc.AllocError.{AllocError}
 use Rattle.std.proofs.lemmas.Bool.{false≢true}
 use Rattle.std.proofs.lemmas.Option.{same_Some}
 use Rattle.codec_payload_payloader.specs.Sending.{Sample}
@@ -9,6 +10,7 @@ use Rattle.codec_payload_sending_history.specs.declared.original.OriginalStream.
 use Rattle.codec_payload_session.specs.Ports.{Session}
 use Rattle.codec_payload_forward_runs.specs.ForwardRuns.{Hops}
 use Rattle.codec_payload_forward_runs.specs.declared.run.ForwardStep.{ForwardStep}
+use Rattle.codec_payload_forward_runs.specs.declared.run.ForwardStep.TheVariants as plain
 use Rattle.codec_payload_session_runs.specs.declared.run.StepAnswer.{StepAnswer}
 use Rattle.codec_payload_server_runs.specs.Serving.{ComesTo, DoesBehind, DoesServing, HasTaken, PassesIf, Serving, ServingStopsAt, StopsComing, Takes, hop_of, serves}
 use Rattle.codec_payload_server_runs.specs.declared.run.Moment.{Moment}
@@ -61,6 +63,16 @@ module _ {X : Type 0} (stream : OriginalStream) (at : Moment) where
       inr (subst (λ (d : List ℕ). HasTaken stream at d s.server t.server) took.1 (has_taken stream at took.0.items taken s.server t.server s.answers t.answers took.2 is), stops bytes refl),
     )
 
+-- no datagram comes to the forwarder in such a step
+pub no_forward : (step : ServeStep) (k now : ℕ) → hop_of step ≡ Some (plain.Forward k now) → ⊥
+no_forward (steps.Send i) k now is = absurd (cc)
+no_forward (steps.Arrive j at) k now is = absurd (cc)
+no_forward (steps.Repeat j again at) k now is = absurd (cc)
+no_forward (steps.Call call) k now is = absurd (cc)
+no_forward (steps.Deliver j time) k now is = absurd (cc)
+no_forward (steps.Pop time) k now is = absurd (cc)
+no_forward steps.Finish k now is = absurd (cc)
+
 same_hop : {a b : ForwardStep} → Some a ≡ Some b → a ≡ b
 same_hop {a = a} {b = b} is = same_Some a b is
 
@@ -85,3 +97,16 @@ module _ {X F : Type 0} (hops_in : X → Hops) (seen_as : ForwardStep → Bool �
   hop_stops Stays StopsPassing StopsIt m (steps.Deliver j now) hop s server is stops same = (subst (λ (f : ForwardStep). StopsIt (seen_as f m) s.behind) (sym (same_hop is)) stops, same)
   hop_stops Stays StopsPassing StopsIt m (steps.Pop now) hop s server is stops same = (subst (λ (f : ForwardStep). StopsIt (seen_as f m) s.behind) (sym (same_hop is)) stops, same)
   hop_stops Stays StopsPassing StopsIt m steps.Finish hop s server is stops same = (subst (λ (f : ForwardStep). StopsIt (seen_as f m) s.behind) (sym (same_hop is)) stops, same)
+
+-- the session received the datagram with that index
+pub took_in : (o : Option (List ℕ)) (v : Vec ℕ) → o ≡ Some v.items → (stream : OriginalStream) (at : Moment) (d : List ℕ) → d ≡ v.items → (s t : Session) (before after : List StepAnswer)
+    (r : Result Bool AllocError) → IfOk r (λ taken. Takes stream at d taken s t before after)
+    → IfOk r
+    (λ taken.
+    MatchOption o ((taken ≡ false) × (t ≡ s) × (after ≡ before)) (λ bytes. (datagram : Vec ℕ) × (datagram.items ≡ bytes) × Takes stream at datagram.items taken s t before after))
+took_in o v is stream at d same s t before after (Ok taken) takes =
+    subst
+    (λ (x : Option (List ℕ)).
+    MatchOption x ((taken ≡ false) × (t ≡ s) × (after ≡ before)) (λ bytes. (datagram : Vec ℕ) × (datagram.items ≡ bytes) × Takes stream at datagram.items taken s t before after))
+    (sym is) (v, refl, subst (λ (x : List ℕ). Takes stream at x taken s t before after) same takes)
+took_in o v is stream at d same s t before after (Err fault) takes = tt

@@ -1,6 +1,3 @@
-pub mod ServeLeaveReleases
-pub mod ServeLeaveRunExample
-pub mod ServeLeaveRuns
 pub mod ServeReleases
 pub mod ServeRunExample
 pub mod ServeRuns

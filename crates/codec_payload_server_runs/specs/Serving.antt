@@ -1,4 +1,4 @@
--- The steps of a media server, whatever stands behind its session: a forwarder and a store, or a forwarder that leaves packets out. A
+-- The steps of a media server, whatever stands behind its session, such as a forwarder and a store. A
 -- run behind the session has steps `F` and states `X`, in each of which a run with a forwarder is.
 use Rattle.std.specs.Global.{Vec}
 use Rattle.std.specs.Prelude.{◌≡◌, ℕ, Bool, true, false, List, [], ◌∷◌, ◌++◌, ◌⊎◌, Option, Some, None, Result, IfSome, MatchOption, slice_get}

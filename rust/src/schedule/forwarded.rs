@@ -11,7 +11,7 @@ pub mod run;
 pub mod store_run;
 
 #[doc(inline)]
-pub use leave_run::{LeaveStep, do_leave_step, leave_out, run_forwarded_leaving_out};
+pub use leave_run::{LeaveStep, run_forwarded_leaving_out};
 
 #[doc(inline)]
 pub use run::{

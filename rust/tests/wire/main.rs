@@ -14,7 +14,6 @@ mod restarted;
 mod rows;
 mod served;
 mod served_again;
-mod served_left_out;
 mod sides;
 mod with_ids;
 
