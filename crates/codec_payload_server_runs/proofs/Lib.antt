@@ -1,5 +1,12 @@
 pub mod ArrivalLemmas
 pub mod SenderPackets
-pub mod ServedReleases
+pub mod SentAt
 pub mod ServeLemmas
 pub mod ServeRunExamples
+pub mod ServeStoreRunExamples
+pub mod ServedReleases
+pub mod ServedStoreReleases
+pub mod ServingArrivals
+pub mod ServingLemmas
+pub mod ServingSessions
+pub mod StoreServing

@@ -1,4 +1,5 @@
--- The datagrams of a sender: packets of its stream, without padding. So a retransmission of one that is unwrapped reads as the datagram.
+-- The datagrams of a sender: packets of its stream, without padding. So a retransmission of one that is unwrapped reads as the datagram,
+-- and is the datagram, if that is bytes.
 use Rattle.std.proofs.Common.{◌≡◌, ◌∙◌, refl, sym, ap, subst, ℕ, zero, suc, ◌<◌, ◌^◌, List, [], ◌∷◌, ◌++◌, Option, Some, None, MatchOption, Result, Ok, length, arith}
 use Rattle.std.specs.Int.{w16, to_be_bytes}
 use Rattle.std.specs.Option.{option_map}
@@ -7,7 +8,7 @@ use Rattle.std.proofs.lemmas.Nat.{from_be_bytes-to_be_bytes_2}
 use Rattle.std.proofs.lemmas.Option.{same_Some}
 use Rattle.codec_payload_base.specs.declared.error.PacketError.{PacketError}
 use Rattle.codec_payload_payloader.specs.Sending.{Sample}
-use Rattle.codec_payload_rtp.specs.RtpPackets.{Packet}
+use Rattle.codec_payload_rtp.specs.RtpPackets.{IsPadding, IsRtp, Packet, header_bytes, is_padded, packet_bytes, padding_bytes}
 use Rattle.codec_payload_rtp.specs.RtpReading.{rtp_at}
 use Rattle.codec_payload_rtp.specs.declared.rtp.RtpError.{RtpError}
 use Rattle.codec_payload_sending.specs.Senders.{Sending}
@@ -77,7 +78,7 @@ sends_own (Some sample) s t done own =
 
 -- Retransmissions
 
-same_packet : (p q : Packet) → ◌≡◌ {A = Result Packet RtpError} (Ok p) (Ok q) → p ≡ q
+pub same_packet : (p q : Packet) → ◌≡◌ {A = Result Packet RtpError} (Ok p) (Ok q) → p ≡ q
 same_packet p q same = cc
 
 -- the number in front of the payload
@@ -104,3 +105,18 @@ reads_again stream datagram of again next retransmission bytes is writes =
     let original : writes.original ≡ with_fields p stream.ssrc stream.payload_type 0 =
     same_Some writes.original (with_fields p stream.ssrc stream.payload_type 0) (sym writes.is ∙ (ap (original_of stream) packet ∙ unwrapped)) in
     writes.reads ∙ (ap (λ (x : Packet). Ok x) (original ∙ has_fields p stream.ssrc stream.payload_type of.ssrc of.payload_type of.padding) ∙ sym of.reads)
+
+-- a packet without padding has one spelling
+no_padding : (n : ℕ) (tail : List ℕ) → n ≡ 0 → IsPadding n tail → tail ≡ padding_bytes n
+no_padding zero tail none is = is
+no_padding (suc n) tail none is = absurd (omega (arith, none))
+
+spelled_whole : (d : List ℕ) (p : Packet) → p.padding ≡ 0 → IsRtp d p → d ≡ packet_bytes p
+spelled_whole d p none is = is.is ∙ ap (λ (tail : List ℕ). header_bytes (is_padded p) p.header ++ (p.payload ++ tail)) (no_padding p.padding is.tail none is.padding)
+
+-- what is unwrapped is the datagram, byte for byte
+pub same_bytes : (stream : OriginalStream) (datagram : List ℕ) (of : IsOf stream datagram) (again : RetransmissionStream) (next : ℕ) (retransmission bytes : List ℕ)
+    → IsRtp datagram of.packet → rtp_at retransmission ≡ Ok (wrapped again next of.packet) → WritesOriginal stream retransmission bytes → bytes ≡ datagram
+same_bytes stream datagram of again next retransmission bytes spelled is writes =
+    let original : writes.original ≡ of.packet = same_packet writes.original of.packet (sym writes.reads ∙ (reads_again stream datagram of again next retransmission bytes is writes ∙ of.reads)) in
+    writes.bytes_are ∙ (ap packet_bytes original ∙ sym (spelled_whole datagram of.packet of.padding spelled))

@@ -38,16 +38,16 @@ use Rattle.codec_payload_server_runs.specs.declared.run.ServeStep.TheVariants as
 -- What steps leave of the sender
 
 -- a step that sends nothing
-record Keeps (s t : Hops) : Type 0 where
-  sends : t.wire.sends ≡ s.wire.sends
-  datagrams : t.wire.datagrams ≡ s.wire.datagrams
-  sending : t.wire.sending ≡ s.wire.sending
+pub record Keeps (s t : Hops) : Type 0 where
+  pub sends : t.wire.sends ≡ s.wire.sends
+  pub datagrams : t.wire.datagrams ≡ s.wire.datagrams
+  pub sending : t.wire.sending ≡ s.wire.sending
 
-keeps_same : (s t : Hops) → t ≡ s → Keeps s t
+pub keeps_same : (s t : Hops) → t ≡ s → Keeps s t
 keeps_same s t same =
     record { sends = ap (λ (x : Hops). x.wire.sends) same; datagrams = ap (λ (x : Hops). x.wire.datagrams) same; sending = ap (λ (x : Hops). x.wire.sending) same }
 
-keeps_comes : (o : Option Packet) (time : ℕ) (s t : Hops) → Comes o time s t → Keeps s t
+pub keeps_comes : (o : Option Packet) (time : ℕ) (s t : Hops) → Comes o time s t → Keeps s t
 keeps_comes None time s t same = keeps_same s t same
 keeps_comes (Some p) time s t done =
     record { sends = ap (λ (x : Hops). x.wire.sends) done.4; datagrams = ap (λ (x : Hops). x.wire.datagrams) done.4; sending = ap (λ (x : Hops). x.wire.sending) done.4 }
@@ -56,7 +56,7 @@ keeps_if : (b : Bool) (P : Hops → Hops → Type 0) (s t : Hops) → (P s t →
 keeps_if true P s t to does = to does
 keeps_if false P s t to same = keeps_same s t same
 
-keeps_delivered : (o : Option (List ℕ)) (now : Ticks) (s t : Hops)
+pub keeps_delivered : (o : Option (List ℕ)) (now : Ticks) (s t : Hops)
     → MatchOption o (t ≡ s) (λ bytes. (receipt : Receipt) × (session : Receiver) × Delivers now bytes s.wire.session receipt session
     × (t ≡ record s { wire = record s.wire { session = session; receipts = s.wire.receipts ++ receipt ∷ [] } }))
     → Keeps s t
@@ -64,7 +64,7 @@ keeps_delivered None now s t same = keeps_same s t same
 keeps_delivered (Some bytes) now s t done =
     record { sends = ap (λ (x : Hops). x.wire.sends) done.3; datagrams = ap (λ (x : Hops). x.wire.datagrams) done.3; sending = ap (λ (x : Hops). x.wire.sending) done.3 }
 
-keeps_wire : (s t : Hops) (wire : Wire) → t ≡ record s { wire = wire } → wire.sends ≡ s.wire.sends → wire.datagrams ≡ s.wire.datagrams → wire.sending ≡ s.wire.sending → Keeps s t
+pub keeps_wire : (s t : Hops) (wire : Wire) → t ≡ record s { wire = wire } → wire.sends ≡ s.wire.sends → wire.datagrams ≡ s.wire.datagrams → wire.sending ≡ s.wire.sending → Keeps s t
 keeps_wire s t wire is sends datagrams sending =
     record { sends = ap (λ (x : Hops). x.wire.sends) is ∙ sends; datagrams = ap (λ (x : Hops). x.wire.datagrams) is ∙ datagrams; sending = ap (λ (x : Hops). x.wire.sending) is ∙ sending }
 
@@ -72,31 +72,31 @@ keeps_wire s t wire is sends datagrams sending =
 abbrev pub IsMore : List (List ℕ) → List (List ℕ) → Type 0
 IsMore before after = (new : List (List ℕ)) × (after ≡ before ++ new)
 
-more_none : (datagrams : List (List ℕ)) → IsMore datagrams datagrams
+pub more_none : (datagrams : List (List ℕ)) → IsMore datagrams datagrams
 more_none datagrams = ([], sym (append-nil datagrams))
 
-more_on : (xs ys zs : List (List ℕ)) → IsMore xs ys → IsMore ys zs → IsMore xs zs
+pub more_on : (xs ys zs : List (List ℕ)) → IsMore xs ys → IsMore ys zs → IsMore xs zs
 more_on xs ys zs one two = (one.0 ++ two.0, two.1 ∙ (ap (λ (ds : List (List ℕ)). ds ++ two.0) one.1 ∙ append_assoc xs one.0 two.0))
 
 -- the datagrams sent before, among all
-taken_of : (before all : List (List ℕ)) (sent : ℕ) → length before ≡ sent → IsMore before all → take sent all ≡ before
+pub taken_of : (before all : List (List ℕ)) (sent : ℕ) → length before ≡ sent → IsMore before all → take sent all ≡ before
 taken_of before all sent count more =
     subst (λ (n : ℕ). take n all ≡ before) count (ap (take (length before)) more.1 ∙ take-append_seam before more.0)
 
-past_end : (xs : List (List ℕ)) (k : ℕ) → slice_get xs k ≡ None → length xs ≤ k
+pub past_end : (xs : List (List ℕ)) (k : ℕ) → slice_get xs k ≡ None → length xs ≤ k
 past_end [] k e = omega arith
 past_end (x ∷ xs) zero e = absurd (cc)
 past_end (x ∷ xs) (suc k) e = omega (arith, past_end xs k e)
 
 -- a step of the sender: the entries from it on, and how many datagrams were sent after it
-record Sent (o : Option Sample) (s t : Wire) (rest : List SentSample) : Type 0 where
-  entries : List SentSample
-  sends : t.sends ++ rest ≡ s.sends ++ entries
-  left : sends_after o entries ≡ rest
-  count : sent_after (length s.datagrams) o entries ≡ length t.datagrams
-  more : IsMore s.datagrams t.datagrams
+pub record Sent (o : Option Sample) (s t : Wire) (rest : List SentSample) : Type 0 where
+  pub entries : List SentSample
+  pub sends : t.sends ++ rest ≡ s.sends ++ entries
+  pub left : sends_after o entries ≡ rest
+  pub count : sent_after (length s.datagrams) o entries ≡ length t.datagrams
+  pub more : IsMore s.datagrams t.datagrams
 
-sent_step : (o : Option Sample) (s t : Wire) (rest : List SentSample)
+pub sent_step : (o : Option Sample) (s t : Wire) (rest : List SentSample)
     → MatchOption o (t ≡ s) (λ sample. (entry : SentSample) × SendsIt sample s.sending s.datagrams entry t.sending t.datagrams
     × (t ≡ record s { sending = t.sending; datagrams = t.datagrams; sends = s.sends ++ entry ∷ [] }))
     → Sent o s t rest
@@ -116,11 +116,11 @@ sent_step (Some sample) s t rest done = record {
 }
 
 -- a step that sends nothing leaves the sender its own datagrams
-own_kept : (s t : Hops) → Keeps s t → SendsItsOwn s.wire → SendsItsOwn t.wire
+pub own_kept : (s t : Hops) → Keeps s t → SendsItsOwn s.wire → SendsItsOwn t.wire
 own_kept s t keeps own =
     subst (λ (x : Sending). AllOf (original_stream x.stream) t.wire.datagrams) (sym keeps.sending) (subst (AllOf (stream_of s.wire)) (sym keeps.datagrams) own)
 
-and_false : (b : Bool) → (b && false) ≡ false
+pub and_false : (b : Bool) → (b && false) ≡ false
 and_false true = refl
 and_false false = refl
 

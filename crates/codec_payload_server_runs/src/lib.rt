@@ -3,4 +3,6 @@
 #![tactic(auto)]
 
 pub mod run;
+mod serving;
+pub mod store_run;
 pub mod theorems;

@@ -5,7 +5,7 @@ ghost use Rattle.std.specs.declared.alloc.AllocError.{AllocError as NoMemory};
 ghost use Rattle.codec_payload_base.specs.declared.error.PacketError.TheVariants.{OutOfMemory};
 ghost use Rattle.codec_payload_payloader.specs.Sending.{sample_of};
 ghost use Rattle.codec_payload_receiver.specs.Sessions.{Session as Receiver};
-ghost use Rattle.codec_payload_rtp.specs.RtpPackets.{Packet};
+ghost use Rattle.codec_payload_rtp.specs.RtpPackets.{IsRtp, Packet};
 ghost use Rattle.codec_payload_sending.specs.Senders.{Sending};
 ghost use Rattle.codec_payload_session.specs.Accepting.{Accepts, time_for};
 ghost use Rattle.codec_payload_session_stream.specs.declared.arrival.Arrival.{Arrival as TheArrival};
@@ -266,7 +266,7 @@ fn repeat<P: Packetizer, D: Depacketizer>(
 /// # Errors
 ///
 /// Out of memory for the record: the session is unchanged.
-fn take_in(
+pub(crate) fn take_in(
     session: &mut Session,
     stream: OriginalStream,
     at: Moment,
@@ -301,13 +301,13 @@ fn is_taken_as(stream: OriginalStream, arrival: &Result<Arrival, AllocError>) ->
 
 /// Writes the retransmission of a datagram under the first number of a stream of retransmissions. `None`: the datagram is no packet, or
 /// one of both payload types is above 127.
-fn retransmission_of(
+pub(crate) fn retransmission_of(
     alloc: Global,
     stream: OriginalStream,
     again: RetransmissionStream,
     datagram: &[u8],
 ) -> Result<Option<Vec<u8>>, AllocError>
-    ensures { IfOk result (λ made. MatchOption made (repeated_in stream again (Option.Some datagram.now) ≡ Option.None) (λ bytes. (packet : Packet) × (repeated_in stream again (Option.Some datagram.now) ≡ Option.Some packet) × IsAgain again packet bytes.items)) }
+    ensures { IfOk result (λ made. MatchOption made (repeated_in stream again (Option.Some datagram.now) ≡ Option.None) (λ bytes. (packet : Packet) × (repeated_in stream again (Option.Some datagram.now) ≡ Option.Some packet) × IsAgain again packet bytes.items × IsRtp datagram.now packet)) }
 {
     if stream.payload_type > 127 || again.payload_type > 127 {
         return Ok(None);
@@ -329,7 +329,7 @@ fn retransmission_of(
 }
 
 /// Passes a datagram to the forwarder, and records what the forwarder did with it.
-fn forward_bytes(
+pub(crate) fn forward_bytes(
     alloc: Global,
     forwarder: &mut Forwarder,
     time: u64,

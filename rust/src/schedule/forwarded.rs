@@ -21,7 +21,7 @@ pub use run::{
 };
 
 #[doc(inline)]
-pub use store_run::{StoreLink, StoreRun, StoreStep, run_forwarded_with_store};
+pub use store_run::{StoreLink, StoreRun, StoreStep, do_store_step, run_forwarded_with_store};
 
 #[doc(inline)]
 pub use switch_run::{

@@ -5,6 +5,12 @@
 
 #[doc(hidden)]
 pub mod run;
+mod serving;
+#[doc(hidden)]
+pub mod store_run;
 
 #[doc(inline)]
 pub use run::{Moment, ServeLink, ServeStep, ServedRun, run_served};
+
+#[doc(inline)]
+pub use store_run::{ServeStoreLink, ServeStoreStep, ServedStoreRun, run_served_with_store};

@@ -6,11 +6,12 @@ use crate::Fail;
 use crate::sides::{receiver_settings, sample_of, sender_of};
 use codec_payload::codec::{CodecDepacketizer, NoBox};
 use codec_payload::forward::{ForwardSettings, Forwarded, Forwarder};
+use codec_payload::history::RetransmissionStream;
 use codec_payload::jitter::jitter_buffer::WaitLimits;
 use codec_payload::rtp::RtpPacket;
 use codec_payload::schedule::forwarded::{ForwardLink, ForwardStep, ForwardedRun, run_forwarded};
 use codec_payload::sender::Sender;
-use codec_payload::stream::receiver::{Receiver, ReceiverSettings};
+use codec_payload::stream::receiver::{Receiver, ReceiverSettings, Retransmission};
 use codec_payload::wire::{Codec, Ticks, ToPayload};
 
 /// How many blocks of eight frames there are; each frame has two datagrams.
@@ -30,18 +31,31 @@ fn link_of(codec: Codec) -> Result<ForwardLink<NoBox, NoBox>, Fail> {
 
 /// The same with this sender.
 pub fn link_with(codec: Codec, sender: Sender<NoBox>) -> Result<ForwardLink<NoBox, NoBox>, Fail> {
+    link_again(codec, sender, None)
+}
+
+/// The same with this stream of retransmissions to the viewer.
+pub fn link_again(
+    codec: Codec,
+    sender: Sender<NoBox>,
+    again: Option<RetransmissionStream>,
+) -> Result<ForwardLink<NoBox, NoBox>, Fail> {
     let mut forwarder = Forwarder::new(ForwardSettings {
         codec,
         ssrc: 0x7777,
         payload_type: 101,
         first_number: 65_000,
         first_time: u32::MAX - 5_000,
-        retransmissions: None,
+        retransmissions: again,
     })?;
     forwarder.want(7);
     let settings = ReceiverSettings {
         payload_type: 101,
         ssrc: Some(0x7777),
+        retransmission: again.map(|stream| Retransmission {
+            ssrc: stream.ssrc,
+            payload_type: stream.payload_type,
+        }),
         ..receiver_settings(AT_ONCE)?
     };
     let depacketizer = CodecDepacketizer::from_codec(codec).ok_or("no depacketizer")?;

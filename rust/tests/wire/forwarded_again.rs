@@ -162,7 +162,7 @@ fn lost_datagrams_come_again_as_retransmissions() -> Result<(), Fail> {
 const THREE_FRAMES: [(u64, &[u8]); 3] = [(960, &[1, 2]), (1_920, &[3, 4]), (2_880, &[5])];
 
 /// The sender, the forwarder and the receiver of that theorem.
-fn link_of_opus() -> Result<StoreLink<NoBox, NoBox>, Fail> {
+pub fn link_of_opus() -> Result<StoreLink<NoBox, NoBox>, Fail> {
     let clock_rate = Frequency::make(48_000).ok_or("a rate")?;
     let packetizer = CodecPacketizer::from_codec(Codec::Opus).ok_or("no packetizer")?;
     let sender = SenderSettings {
@@ -238,16 +238,19 @@ fn steps_of_theorem() -> Vec<StoreStep> {
     steps
 }
 
-/// The theorem takes these results of sends, of the forwarder and of the request as given, and that the second datagram is repeated.
-#[test]
-fn the_run_of_the_theorem_pops_all_frames() -> Result<(), Fail> {
+/// The samples of that theorem.
+pub fn opus_samples() -> Result<Vec<ToPayload>, Fail> {
     let rate = Frequency::make(48_000).ok_or("a rate")?;
     let samples = THREE_FRAMES.map(|(ticks, frame)| ToPayload {
         pt: Pt::new_with_value(111),
         rtp_time: MediaTime::new(ticks, rate),
         ..sample_of(0, frame)
     });
-    let run = run_forwarded_with_store(&mut link_of_opus()?, &samples, &steps_of_theorem())?;
+    Ok(samples.into())
+}
+
+/// The theorem takes these results of sends, of the forwarder and of the request as given, and that the second datagram is repeated.
+pub fn compare_with_theorem(run: &StoreRun) -> Result<(), Fail> {
     let sends = &run.run.run.sends;
     assert!(
         sends
@@ -261,9 +264,19 @@ fn the_run_of_the_theorem_pops_all_frames() -> Result<(), Fail> {
     let again = RtpPacket::parse(&run.again[0])?;
     assert_eq!((again.header.ssrc, again.header.sequence_number), (8, 7));
     assert_eq!(again.payload, [0, 101, 3, 4]);
-    assert_eq!(popped_in(&run)?, [1, 2, 3, 4, 5]);
+    assert_eq!(popped_in(run)?, [1, 2, 3, 4, 5]);
     assert_eq!(run.run.run.pops.iter().flatten().count(), 3);
     Ok(())
+}
+
+#[test]
+fn the_run_of_the_theorem_pops_all_frames() -> Result<(), Fail> {
+    let mut link = link_of_opus()?;
+    compare_with_theorem(&run_forwarded_with_store(
+        &mut link,
+        &opus_samples()?,
+        &steps_of_theorem(),
+    )?)
 }
 
 /// A viewer joins at the second keyframe, when the store has the datagrams of 20 frames. It gets the frames from there on. The number

@@ -13,6 +13,7 @@ mod resent;
 mod restarted;
 mod rows;
 mod served;
+mod served_again;
 mod sides;
 mod switched;
 mod with_ids;

@@ -14,16 +14,16 @@ use codec_payload::session::{Arrival, Event, Format, Session, SessionSettings, S
 use codec_payload::wire::{Codec, CodecSpec, Frequency, Ticks};
 
 /// The stream of the sender.
-const STREAM: OriginalStream = OriginalStream {
+pub const STREAM: OriginalStream = OriginalStream {
     ssrc: 7,
     payload_type: 96,
 };
 
 /// The SSRCs of the other senders. The first one leaves at the start of this block.
 const OTHERS: [u32; 2] = [60, 61];
-const LEAVES: usize = 2;
+pub const LEAVES: usize = 2;
 
-fn format_of(payload_type: u8, codec: Codec, rate: u32) -> Result<Format, Fail> {
+pub fn format_of(payload_type: u8, codec: Codec, rate: u32) -> Result<Format, Fail> {
     let spec = CodecSpec {
         codec,
         clock_rate: Frequency::make(rate).ok_or("a rate")?,
@@ -33,7 +33,7 @@ fn format_of(payload_type: u8, codec: Codec, rate: u32) -> Result<Format, Fail> 
 }
 
 /// A session with two places, for the formats of all senders.
-fn session() -> Result<Session, Fail> {
+pub fn session() -> Result<Session, Fail> {
     let mut settings = SessionSettings::live();
     let video = format_of(STREAM.payload_type, Codec::Vp8, 90_000)?;
     settings.formats = vec![
@@ -60,7 +60,7 @@ fn link_for(stream: OriginalStream) -> Result<ServeLink<NoBox, NoBox>, Fail> {
     })
 }
 
-fn moment(now: u64) -> Moment {
+pub fn moment(now: u64) -> Moment {
     Moment {
         now: Ticks(now),
         micros: None,
@@ -80,16 +80,16 @@ fn other(ssrc: u32, number: u16) -> Vec<u8> {
 
 /// The steps, and a plain model of the media server.
 #[derive(Default)]
-struct Plan {
-    steps: Vec<ServeStep>,
+pub struct Plan {
+    pub steps: Vec<ServeStep>,
     /// Whether the session took each datagram of the sender that came, in order.
-    taken: Vec<bool>,
+    pub taken: Vec<bool>,
     /// Which datagram each written one is.
-    written: Vec<usize>,
+    pub written: Vec<usize>,
     /// The datagram with which the forwarder began.
-    begun: Option<usize>,
+    pub begun: Option<usize>,
     /// Whether each datagram came to the viewer.
-    came: Vec<bool>,
+    pub came: Vec<bool>,
     /// The number of the next retransmission.
     next: u16,
 }
@@ -114,7 +114,7 @@ impl Plan {
     }
 
     /// A datagram of the sender comes, as a retransmission one time in four.
-    fn come(&mut self, now: u64, datagram: usize, place: bool, seed: &mut u32) {
+    pub fn come(&mut self, now: u64, datagram: usize, place: bool, seed: &mut u32) {
         let at = moment(now);
         if self.taken.contains(&true) && following(seed).is_multiple_of(4) {
             let again = RetransmissionStream {
@@ -141,7 +141,7 @@ impl Plan {
     }
 
     /// What comes to the session beside the sender's datagrams.
-    fn beside(&mut self, block: usize, now: u64) {
+    pub fn beside(&mut self, block: usize, now: u64) {
         if block < LEAVES {
             self.receive(now, other(OTHERS[0], block as u16));
         }
@@ -185,18 +185,23 @@ impl Plan {
     }
 
     /// The bytes of all frames whose datagrams both came.
-    fn wanted(&self) -> Vec<u8> {
+    pub fn wanted(&self) -> Vec<u8> {
         let frames = self.came.chunks(2).enumerate();
         let whole = frames.filter(|(_, came)| came[0] && came[1]);
         whole.flat_map(|(index, _)| frame_of(index)).collect()
     }
+
+    /// No step yet.
+    pub fn empty() -> Self {
+        Plan {
+            came: vec![false; BLOCKS * 16],
+            ..Plan::default()
+        }
+    }
 }
 
 fn plan_of(mut seed: u32) -> Plan {
-    let mut plan = Plan {
-        came: vec![false; BLOCKS * 16],
-        ..Plan::default()
-    };
+    let mut plan = Plan::empty();
     for block in 0..BLOCKS {
         plan.block(block, &mut seed);
     }
@@ -205,13 +210,21 @@ fn plan_of(mut seed: u32) -> Plan {
 
 /// Whether the session took each datagram of the sender, in order.
 fn taken_in(run: &ServedRun, plan: &Plan) -> Vec<bool> {
-    let calls = plan.steps.iter().filter(|step| {
+    taken_by(&run.answers, plan.steps.iter())
+}
+
+/// The same by the answers to these steps.
+pub fn taken_by<'a>(
+    answers: &[StepAnswer],
+    steps: impl Iterator<Item = &'a ServeStep>,
+) -> Vec<bool> {
+    let calls = steps.filter(|step| {
         matches!(
             step,
             ServeStep::Arrive { .. } | ServeStep::Repeat { .. } | ServeStep::Call(_)
         )
     });
-    let answered = calls.zip(&run.answers);
+    let answered = calls.zip(answers);
     let own = answered.filter(|(step, _)| !matches!(step, ServeStep::Call(_)));
     own.map(|(_, answer)| {
         matches!(

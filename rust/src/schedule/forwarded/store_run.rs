@@ -73,8 +73,14 @@ pub fn run_forwarded_with_store<P: Packetizer, D: Depacketizer>(
     Ok(run)
 }
 
-/// Executes one step, and records its result.
-fn do_store_step<P: Packetizer, D: Depacketizer>(
+/// Executes one step of [`run_forwarded_with_store`], and appends its results to those of the earlier steps. A step that names nothing
+/// changes nothing.
+///
+/// # Errors
+///
+/// `OutOfMemory`: sender, forwarder, receiver and store are as the failed call left them. Discard the results, which may lack some of
+/// this step.
+pub fn do_store_step<P: Packetizer, D: Depacketizer>(
     link: &mut StoreLink<P, D>,
     samples: &[ToPayload],
     step: StoreStep,

@@ -21,4 +21,4 @@ returns c =
     let begins : header ≡ c.new-out.result.items ++ header = sym (ap (λ (xs : List ℕ). xs ++ header) c.new-out.ensures.items) in
     let written : IsAgain c.args.again p c.extend_from_slice-2.new.self.items =
     ap rtp_at (whole ∙ (ap (λ (xs : List ℕ). xs ++ p.payload) numbered ∙ append_assoc header number p.payload)) ∙ c.in_ok-write.ensures.comes_back header (number ++ p.payload) begins in
-    (p, is, written)
+    (p, is, written, c.in-Ok.ensures.spelled)
