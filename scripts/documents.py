@@ -304,7 +304,7 @@ def lemmas():
     for names, file in re.findall(r"((?:`\w+`(?:, )?)+) of `([\w/]+\.antt)`", page):
         texts = [read(it) for it in files(".antt") if it.endswith(f"/{file}")]
         for name in re.findall(r"`(\w+)`", names):
-            if not any(re.search(rf"^(?:abbrev |unfoldable |pub |record |data )*{name} ", it, re.M) for it in texts):
+            if not any(re.search(rf"^(?:(?:abbrev |unfoldable |pub |record |data )*| +pub ){name} ", it, re.M) for it in texts):
                 yield f"docs/proof/VERIFICATION.md: {file} has no {name}"
 
 
