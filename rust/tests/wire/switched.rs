@@ -144,21 +144,18 @@ impl Schedule {
         } else {
             Source::First
         };
-        match self.begun {
-            Some((present, first)) if present == source => {
-                if first <= datagram {
-                    self.written.push((source, datagram));
-                }
-            }
-            _ if wanted == source && datagram.is_multiple_of(self.begins_each) => {
-                if source == Source::Second {
-                    let highest = self.written.iter().map(|(_, datagram)| datagram + 1).max();
-                    self.switch = Some((highest.unwrap_or(0), datagram));
-                }
-                self.begun = Some((source, datagram));
+        let goes_on = self.begun.filter(|(present, _)| *present == source);
+        if let Some((_, first)) = goes_on {
+            if first <= datagram {
                 self.written.push((source, datagram));
             }
-            _ => {}
+        } else if wanted == source && datagram.is_multiple_of(self.begins_each) {
+            if source == Source::Second {
+                let highest = self.written.iter().map(|(_, datagram)| datagram + 1).max();
+                self.switch = Some((highest.unwrap_or(0), datagram));
+            }
+            self.begun = Some((source, datagram));
+            self.written.push((source, datagram));
         }
     }
 
