@@ -184,7 +184,7 @@ fn main() -> Result<(), Box<dyn Error>> {
         ];
         let cells = results
             .each_ref()
-            .map(|it| format!("{} of {}; {}", it.released, it.sent, it.mean()));
+            .map(|it| format!("{}/{}; {}", it.released, it.sent, it.mean()));
         println!("| {} | {} |", case.name, cells.join(" | "));
         let [fixed, _, adaptive] = results;
         assert!(

@@ -1,4 +1,4 @@
-//! Senders that restart on their SSRC within or near the windows, and hostile networks in which none does. It prints four tables
+//! Senders that restart on their SSRC within or near the windows, and hostile networks in which none does. It prints three tables
 //! of docs/use/LIMITS.md, and fails if a restart takes longer to find than documented, or if a restart is reported although the sender
 //! did not restart:
 //!
@@ -395,10 +395,33 @@ fn hostile(
     Ok(arriving)
 }
 
-/// Makes a table row of restarts, and prints it for some distances. Returns the number of restarts that were not found in time.
-fn print_restarts(distance: u16) -> Result<u32, Fault> {
+/// The rows of a table, each with its name and its figures.
+#[derive(Default)]
+struct Table(Vec<(String, String)>);
+
+impl Table {
+    /// Adds a row. If the row before has the same figures, both become one.
+    fn add(&mut self, name: &str, figures: String) {
+        match self.0.last_mut() {
+            Some((names, before)) if *before == figures => *names += &format!(" or {name}"),
+            _ => self.0.push((name.to_string(), figures)),
+        }
+    }
+
+    /// Prints the table, whose rows are named by this heading.
+    fn print(&self, heading: &str) {
+        let names = STREAMS.map(|it| it.name).join(" | ");
+        println!("| {heading} | {names} |\n|---|---|---|---|---|");
+        for (name, figures) in &self.0 {
+            println!("| {name} |{figures}");
+        }
+    }
+}
+
+/// Adds a table row of restarts, for some distances. Returns the number of restarts that were not found in time.
+fn add_restarts(table: &mut Table, distance: u16) -> Result<u32, Fault> {
     let mut wrong = 0;
-    let mut row = format!("| {distance} |");
+    let mut row = String::new();
     for stream in STREAMS {
         let how = Restart {
             frames: frames_before(stream, distance),
@@ -418,7 +441,7 @@ fn print_restarts(distance: u16) -> Result<u32, Fault> {
         wrong += u32::from(outcome.restarts + going_on.restarts != expected);
     }
     if PRINTED.contains(&distance) {
-        println!("{row}");
+        table.add(&distance.to_string(), row);
     }
     Ok(wrong)
 }
@@ -428,21 +451,15 @@ fn frames_before(stream: Stream, distance: u16) -> u64 {
     1_200.max(u64::from(distance) + 100) / stream.packets as u64 + 1
 }
 
-/// Prints a table row of restarts after which packets of the former sender still arrive: the longest pause and the most frames that
-/// were lost, over all distances above 2, and below the first number. Returns the number of restarts after which the pause is too
-/// long.
-fn print_still_arriving(former: Former, name: &str, offset: u64) -> Result<u32, Fault> {
-    let mut wrong = 0;
-    let times = if offset == 0 {
-        "times continue"
-    } else {
-        "another offset"
-    };
+/// Makes a table row of restarts after which packets of the former sender still arrive: the longest pause and the most frames that
+/// were lost, over all distances above 2, and below the first number. Returns it with the number of restarts after which the pause
+/// is too long.
+fn row_of_still_arriving(former: Former, offset: u64) -> Result<(String, u32), Fault> {
+    let (mut wrong, mut row) = (0, String::new());
     let at_most = match former {
         Former::LateEnd => LONGEST_AFTER_END,
         _ => LONGEST,
     };
-    print!("| {name}, {times} |");
     for stream in STREAMS {
         let (mut pause, mut lost) = (0, 0);
         // The receiver heard more of the former sender than its late end.
@@ -463,19 +480,17 @@ fn print_still_arriving(former: Former, name: &str, offset: u64) -> Result<u32, 
             pause = outcome.longest_pause.max(pause);
             lost = missing.max(lost);
         }
-        print!(" {pause}; {lost} |");
+        row += &format!(" {pause}; {lost} |");
         wrong += u32::from(pause > at_most.max(5 * stream.interval));
     }
-    println!();
-    Ok(wrong)
+    Ok((row, wrong))
 }
 
-/// Prints a table row of senders that begin below the first number of the stream, after it was sent for `age` milliseconds: the
+/// Adds a table row of senders that begin below the first number of the stream, after it was sent for `age` milliseconds: the
 /// longest of the distances, with another RTP offset and with times that continue. Returns the number of restarts that were not
 /// found in time.
-fn print_young(age: u64) -> Result<u32, Fault> {
-    let mut wrong = 0;
-    print!("| {:.1} s |", age as f64 / 1_000.0);
+fn add_young(table: &mut Table, age: u64) -> Result<u32, Fault> {
+    let (mut wrong, mut row) = (0, String::new());
     for stream in STREAMS {
         let (mut pause, mut lost) = (0, 0);
         for (below, offset) in BELOW.iter().flat_map(|it| [(*it, 0x1234_5678), (*it, 0)]) {
@@ -491,52 +506,54 @@ fn print_young(age: u64) -> Result<u32, Fault> {
             lost = missing.max(lost);
             wrong += u32::from(outcome.restarts != 1);
         }
-        print!(" {pause}; {lost} |");
+        row += &format!(" {pause}; {lost} |");
         wrong += u32::from(pause > LONGEST.max(5 * stream.interval));
     }
-    println!();
+    table.add(&format!("{:.1}", age as f64 / 1_000.0), row);
     Ok(wrong)
 }
 
-/// Prints a table row of the restarts that a receiver reports, over all networks. Returns their number.
-fn print_networks() -> Result<u32, Fault> {
-    let mut all = 0;
-    print!("| all eight networks |");
+/// Returns the number of restarts that a receiver reports, over all networks, in none of which a sender restarts.
+fn false_restarts() -> Result<u32, Fault> {
+    let mut restarts = 0;
     for stream in STREAMS {
-        let mut restarts = 0;
         for network in NETWORKS {
             let mut random = Random(1);
             for _ in 0..RUNS {
                 let arriving = hostile(stream, network, &mut random)?;
-                restarts += receive(stream, &arriving)?.restarts;
+                restarts += receive(stream, &arriving)?.restarts as u32;
             }
         }
-        all += restarts as u32;
-        print!(" {restarts} |");
     }
-    println!();
-    Ok(all)
+    Ok(restarts)
 }
 
 fn main() -> Result<(), Fault> {
-    let names = STREAMS.map(|it| it.name).join(" | ");
     let mut wrong = 0;
-    println!("| numbers behind | {names} |\n|---|---|---|---|---|");
+    let mut behind = Table::default();
     for distance in DISTANCES {
-        wrong += print_restarts(distance)?;
+        wrong += add_restarts(&mut behind, distance)?;
     }
-    println!("\n| still arrives | {names} |\n|---|---|---|---|---|");
+    behind.print("numbers behind");
+    let mut arriving = Table::default();
     for (former, name) in STILL_ARRIVING {
-        for offset in [0x1234_5678, 0] {
-            wrong += print_still_arriving(former, name, offset)?;
+        let (another, too_long) = row_of_still_arriving(former, 0x1234_5678)?;
+        let (continued, too_long_too) = row_of_still_arriving(former, 0)?;
+        wrong += too_long + too_long_too;
+        if another == continued {
+            arriving.add(name, another);
+        } else {
+            arriving.add(&format!("{name}, another offset"), another);
+            arriving.add(&format!("{name}, times continue"), continued);
         }
     }
-    println!("\n| age | {names} |\n|---|---|---|---|---|");
+    arriving.print("still arrives");
+    let mut young = Table::default();
     for age in AGES {
-        wrong += print_young(age)?;
+        wrong += add_young(&mut young, age)?;
     }
-    println!("\n| network | {names} |\n|---|---|---|---|---|");
-    wrong += print_networks()?;
+    young.print("age in s");
+    wrong += false_restarts()?;
     if wrong > 0 {
         return Err(format!("{wrong} cases are not as documented").into());
     }

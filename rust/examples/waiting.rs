@@ -232,7 +232,7 @@ impl fmt::Display for Outcome {
             longest_wait,
             longest_pause,
         } = self;
-        write!(f, "{units} of {whole}; {longest_wait}; {longest_pause}")
+        write!(f, "{units}/{whole}; {longest_wait}; {longest_pause}")
     }
 }
 
