@@ -30,8 +30,8 @@
  * outputs except the bytes, unless its comment says otherwise.
  *
  * HANDLES. A packetizer, a depacketizer, a buffer, a RED sender, a sender, a history, a forwarder, a receiver, an adaptive
- * wait, a counter of freezes, a transport reporter, the sent packets of a transport and a session each live in a handle: a struct of that type in your own
- * memory. Initialise it with CPAY_INIT, create the object by the call named *_new, and end with the call named *_free, which
+ * wait, a counter of freezes, a transport reporter, the sent packets of a transport and a session each live in a handle: a struct of
+ * that type in your own memory. Initialise it with CPAY_INIT, create the object by the call named *_new, and end with the call named *_free, which
  * leaves the handle empty. You may free an empty handle. Other calls on an empty handle return CPAY_EMPTY; calls on a handle
  * of another type, as after a cast, return CPAY_OTHER_KIND. Never write into a handle. Never copy a handle in use: the
  * library cannot detect that another copy was freed. You may move it in memory if you forget the old place.
@@ -794,8 +794,8 @@ CPAY_CHECKED cpay_status cpay_forwarder_resend(cpay_forwarder *forwarder, cpay_h
 
 /** What a forwarder wrote, and what it did not. Each is modulo 2^64. */
 typedef struct {
-    uint64_t packets;  /**< packets under the viewer's SSRC: CPAY_FORWARDED_BEGAN, _WRITTEN and _FILLED and, without has_rtx, those that were
-                            resent */
+    uint64_t packets;  /**< packets under the viewer's SSRC: CPAY_FORWARDED_BEGAN, _WRITTEN and _FILLED and, without has_rtx, those
+                            that were resent */
     uint64_t octets;   /**< payload bytes of these, without padding */
     uint64_t switches; /**< sources that began: CPAY_FORWARDED_BEGAN */
     uint64_t filled;   /**< packets of padding: CPAY_FORWARDED_FILLED */
@@ -822,8 +822,10 @@ CPAY_CHECKED cpay_status cpay_forwarder_report(cpay_forwarder *forwarder, uint32
 #define CPAY_NO_MAX_UNIT SIZE_MAX
 
 /** What a receiver of video does with units that a decoder cannot show. A decoder can show a keyframe. It can show a unit of VP8 with
- * PictureID and TL0PICIDX if it can show all to which that unit may refer (RFC 7741, section 4.2). It can show any other contiguous
- * unit after one that it can show. A unit is a keyframe by its frame header. Audio and custom codecs are never inspected. */
+ * PictureID and TL0PICIDX if it can show all to which that unit may refer (RFC 7741, section 4.2). The same applies to a unit that
+ * names its references: by a dependency descriptor, whose id the settings have, or by P_DIFFs of VP9 in the flexible mode. It can
+ * show any other contiguous unit after one that it can show. A unit is a keyframe by its frame header. Audio and custom codecs are
+ * never inspected. */
 enum {
     CPAY_KEYFRAME_OFF = 0,  /**< units are not inspected: `decodable` is true, `keyframe` is false */
     CPAY_KEYFRAME_MARK = 1, /**< each unit is released, and `decodable` says whether a decoder can show it; all initialisers set
@@ -910,8 +912,9 @@ typedef enum {
     CPAY_RESTARTED = 5,        /**< the sender has restarted: this packet and the suspect packet before it were stored */
     CPAY_RESTARTED_ALONE = 6,  /**< the sender has restarted, and only this packet was stored: the packet before it had no media,
                                     or you called cpay_receiver_restart */
-    CPAY_NO_MEDIA = 7,         /**< padding only, a payload type without media, or a packet whose RTP time a stored block of RED
-                                    has; no frame waits for its number */
+    CPAY_NO_MEDIA = 7,         /**< padding only, a payload type without media, a retransmission without payload, RED whose primary
+                                    block has another type, or a packet whose RTP time a stored block of RED has; no frame waits
+                                    for its number */
     CPAY_OTHER_STREAM = 8,     /**< another SSRC or payload type; ignored */
     CPAY_RTCP = 9,             /**< RTCP on the same port; ignored */
     CPAY_UNDECIDED = 10        /**< the stream is not chosen yet: the datagram is kept until it is */
@@ -1408,8 +1411,8 @@ typedef struct {
 
 /** Processes one datagram of the port, received at time `now`, in ticks of your clock, and reports what was done with it. Any bytes
  * are accepted. Its SSRC and its payload type identify the stream, which it begins if there is none and a place is free. If all
- * places are taken, the new stream replaces the first one that is not announced yet. The time is proportional to the number of
- * streams. CPAY_OUT_OF_MEMORY: the datagram is not counted, and you may pass it again. [m] */
+ * places are taken, the new stream replaces the first one that is not announced yet. The stream is found by a search, so the time
+ * grows with the logarithm of the number of streams. CPAY_OUT_OF_MEMORY: the datagram is not counted, and you may pass it again. [m] */
 CPAY_CHECKED cpay_status cpay_session_receive(cpay_session *session, uint64_t now, const uint8_t *datagram, size_t datagram_len,
                                               cpay_arrival *arrival);
 

@@ -38,22 +38,22 @@ POPS = {"bare": "`pop`", "unit": "`pop_unit`", "once": "one `pop_unit`"}
 BUILDS = {"as cargo builds it": {}, "`codegen-units = 1`": {"CODEGEN_UNITS": "1"}, "and `lto = \"fat\"`": {"CODEGEN_UNITS": "1", "LTO": "fat"}}
 # The kinds of tools/speed/src/bin/hostile.rs, each with its largest number of instructions.
 CHOSEN = {
-    ("frames", 4): ("VP8 of 4 packets a frame, nothing lost", 3_050),
+    ("frames", 4): ("VP8 of 4 packets a frame, nothing lost", 2_850),
     ("frames", 64): ("of 64 packets", 3_700),
-    ("frames", 1_000): ("of 1,000 packets", 3_000),
+    ("frames", 1_000): ("of 1,000 packets", 2_750),
     ("gap", 1_024): ("1,024 packets held behind a lost one", 3_150),
     ("gaps", 1_024): ("1,024 packets held, each behind a lost one", 22_500),
     ("opens", 1_024): ("the same, and each datagram comes behind one more lost packet", 22_500),
     ("fills", 1_024): ("the same, and each datagram is a packet that was lost", 109_000),
-    ("no_media", 1_024): ("1,024 numbers without media, each behind a lost packet", 22_700),
+    ("no_media", 1_024): ("1,024 numbers without media, each behind a lost packet", 22_500),
     ("jumps", 64): ("a packet whose number is far ahead of all others", 22_500),
     ("repeats", 64): ("a packet that is held", 2_900),
-    ("times", 1): ("a frame whose time is anywhere", 3_900),
-    ("blocks", 32): ("RED with 32 blocks, all of lost packets", 50_300),
-    ("requests", 350): ("RTCP: a NACK with 350 pairs", 1_000),
-    ("reports", 1): ("RTCP: a receiver report of 31 blocks", 1_000),
+    ("times", 1): ("a frame whose time is anywhere", 3_600),
+    ("blocks", 32): ("RED with 32 blocks, all of lost packets", 50_000),
+    ("requests", 350): ("RTCP: a NACK with 350 pairs", 920),
+    ("reports", 1): ("RTCP: a receiver report of 31 blocks", 880),
     ("goodbyes", 11): ("RTCP: BYE of 341 SSRCs", 11_900),
-    ("numbered", 4_000): ("a packet with a transport-wide number, behind 4,000 of them", 4_300),
+    ("numbered", 4_000): ("a packet with a transport-wide number, behind 4,000 of them", 4_050),
     ("strays", 1_000): ("a packet of a new SSRC, all 64 places taken by senders of one packet", 38_000),
 }
 HOSTILE = {"goodbyes": "300 BYEs of nobody, 1,200 bytes", "strays": "a packet of a new SSRC, all places taken"}
