@@ -11,7 +11,7 @@ ghost use Rattle.codec_payload_handle.specs.Numbers.{given_if};
 ghost use Rattle.codec_payload_handle.specs.Settings.{codec_numbered};
 
 use codec_payload_core::av1::detect_av1_keyframe;
-use codec_payload_core::codec::CodecDepacketizer;
+use codec_payload_core::codec::{CodecDepacketizer, Depacketizer};
 use codec_payload_core::vp8::detect_vp8_keyframe;
 use codec_payload_core::vp9::{detect_vp9_keyframe, detect_vp9_keyframe_bitstream};
 use codec_payload_handle::settings::codec_of;

@@ -2,7 +2,7 @@
 
 ghost use Rattle.codec_payload_c_packets.specs.Assemblers.{LentBy, StartsAnew, Takes, Unpacks};
 
-use codec_payload_core::codec::CodecExtra;
+use codec_payload_core::codec::{CodecExtra, Depacketizer};
 use codec_payload_handle::bytes::fill;
 use codec_payload_handle::extra::{Extra, tell_extra};
 use codec_payload_handle::object::Assembler;

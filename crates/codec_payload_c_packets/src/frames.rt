@@ -5,7 +5,7 @@ ghost use Rattle.codec_payload_core.specs.Packetizers.{is_built_in, packetizer_s
 ghost use Rattle.codec_payload_c_packets.specs.Frames.{LaysFrame, LaysPackets, capped, laid, placed_at, rooms_in, size_with};
 
 use crate::whole_frames::{hand_over_whole, is_sent_whole};
-use codec_payload_core::codec::CodecPacketizer;
+use codec_payload_core::codec::{CodecPacketizer, Packetizer};
 use codec_payload_core::payloads::Payloads;
 use codec_payload_handle::object::FrameSender;
 use codec_payload_handle::settings::packetizer_as;

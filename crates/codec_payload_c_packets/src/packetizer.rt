@@ -3,6 +3,7 @@
 ghost use Rattle.std.specs.Prelude.{◌≡◌, ◌≢◌};
 ghost use Rattle.codec_payload_c_packets.specs.Senders.{CutsFrame, GivesPacket};
 
+use codec_payload_core::codec::Packetizer;
 use codec_payload_handle::bytes::fill;
 use codec_payload_handle::object::FrameSender;
 use codec_payload_handle::status;

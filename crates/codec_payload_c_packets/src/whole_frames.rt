@@ -5,7 +5,7 @@ ghost use Rattle.codec_payload_core.specs.Packetizers.{PacketizerStep, is_built_
 ghost use Rattle.codec_payload_c_packets.specs.Frames.{LaysPackets, capped, rooms_in, sends_pieces};
 
 use crate::frames::{FrameCut, FrameRoom, PlacedPacket, WholeFrame, put_at};
-use codec_payload_core::codec::CodecPacketizer;
+use codec_payload_core::codec::{CodecPacketizer, Packetizer};
 use codec_payload_handle::status;
 
 /// Returns whether the packetizer sends pieces of frames without headers.
