@@ -263,7 +263,8 @@ fn settings_of(
 }
 
 /// Returns the number of an outcome.
-fn number_of(outcome: Outcome) -> u32
+#[inline(always)]
+pub(crate) fn number_of(outcome: Outcome) -> u32
     ensures { result ≡ outcome_number outcome }
 {
     match outcome {

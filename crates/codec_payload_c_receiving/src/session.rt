@@ -1,12 +1,12 @@
 //! Sessions: the datagrams of a port in, the events of its streams out.
 
-ghost use Rattle.std.specs.Prelude.{◌≡◌, ◌≢◌, ◌<◌, [], length, Option};
+ghost use Rattle.std.specs.Prelude.{◌≡◌, ◌≢◌, ◌<◌, [], length, Option, Result};
 ghost use Rattle.std_alloc.specs.Vec.{vec_ptr};
 ghost use Rattle.codec_payload_session_stream.specs.Units.{HasUnit, with_unit};
 ghost use Rattle.codec_payload_c_receiving.specs.Sessions.{HandsOver, PollsEvent, ReceivesDatagram, TakesDatagram, TellsArrival, TellsJudgedBy, TellsOfStream, arrived_as, ending_number, event_with, packet_event, telephone_unit};
 ghost use Rattle.codec_payload_handle.specs.Units.{no_unit};
 
-use crate::receiver::report_answer;
+use crate::receiver::{number_of as number_of_outcome, report_answer};
 use codec_payload_core::buffer::PoppedUnit;
 use codec_payload_core::wire::Ticks;
 use codec_payload_handle::object::PortSession;
@@ -67,8 +67,21 @@ fn tell_arrived(told: &mut Arrival, kind: u32)
     told.payload_type = 0;
 }
 
-/// Describes a datagram for which a stream has this answer, in place of what `told` has.
+/// Describes a datagram that a stream received with this outcome, in place of what `told` has. Most datagrams are such.
 #[inline(always)]
+fn tell_outcome(told: &mut Arrival, ssrc: u32, payload_type: u8, outcome: Outcome)
+    ensures { TellsOfStream ssrc payload_type (Result.Ok outcome) told.new }
+{
+    told.kind = 0;
+    told.ssrc = ssrc;
+    told.status = status::OK;
+    told.outcome = number_of_outcome(outcome);
+    told.payload_type = payload_type;
+}
+
+/// Describes a datagram for which a stream has this answer, in place of what `told` has.
+#[cold]
+#[inline(never)]
 fn tell_stream(
     told: &mut Arrival,
     ssrc: u32,
@@ -94,7 +107,7 @@ fn tell_arrival(told: &mut Arrival, arrived: Arrived)
             ssrc,
             payload_type,
             outcome,
-        } => tell_stream(told, ssrc, payload_type, Ok(outcome)),
+        } => tell_outcome(told, ssrc, payload_type, outcome),
         Arrived::Faulty {
             ssrc,
             payload_type,
@@ -212,65 +225,71 @@ fn telephone_unit(rtp_time: u32, marker: bool, payload: &[u8]) -> Unit
     }
 }
 
-/// Describes an event without bytes and without a unit, with this status and this reason to end. `of` is the kind of the event, the
-/// SSRC and the payload type of its stream.
+/// Describes an event without bytes and without a unit. `of` is the kind of the event and the SSRC of its stream, and `said` is the
+/// status and the reason to end.
 #[cold]
 #[inline(never)]
 fn lend_nothing(
     port: &mut PortSession,
     told: &mut Event,
-    of: (u32, u32, u8),
-    status: u32,
-    why: u32,
+    of: (u32, u32),
+    payload_type: u8,
+    said: (u32, u32),
 ) -> u32
     ensures done { result ≡ 0 }
-    ensures told { told.new ≡ record (event_with of.0 of.1 of.2 (vec_ptr port.new.lent) no_unit) { status = status; why = why } }
+    ensures told { told.new ≡ record (event_with of.0 of.1 payload_type (vec_ptr port.new.lent) no_unit) { status = said.0; why = said.1 } }
     ensures lent { port.new.lent.items ≡ [] }
     ensures rest { port.new ≡ record port.old { lent = port.new.lent } }
 {
     port.lend_nothing();
     *told = Event {
-        status,
-        why,
-        ..event_with(of.0, of.1, of.2, port.lent.as_ptr(), no_unit())
+        status: said.0,
+        why: said.1,
+        ..event_with(of.0, of.1, payload_type, port.lent.as_ptr(), no_unit())
     };
     status::OK
 }
 
-/// Lends an RTCP packet to send, and describes its event. `of` is the kind of the event, the SSRC and the payload type of its
-/// stream.
+/// Lends an RTCP packet to send, and describes its event. `of` is the kind of the event and the SSRC of its stream.
 #[cold]
 #[inline(never)]
-fn lend_packet(port: &mut PortSession, told: &mut Event, of: (u32, u32, u8), packet: Vec<u8>) -> u32
+fn lend_packet(
+    port: &mut PortSession,
+    told: &mut Event,
+    of: (u32, u32),
+    payload_type: u8,
+    packet: Vec<u8>,
+) -> u32
     ensures done { result ≡ 0 }
-    ensures told { told.new ≡ packet_event of.0 of.1 of.2 (vec_ptr port.new.lent) (length packet.items) }
+    ensures told { told.new ≡ packet_event of.0 of.1 payload_type (vec_ptr port.new.lent) (length packet.items) }
     ensures lent { port.new ≡ record port.old { lent = packet } }
 {
     port.lend(packet);
     *told = Event {
         bytes: port.lent.len(),
-        ..event_with(of.0, of.1, of.2, port.lent.as_ptr(), no_unit())
+        ..event_with(of.0, of.1, payload_type, port.lent.as_ptr(), no_unit())
     };
     status::OK
 }
 
-/// Lends the payload of telephone events, and describes their event. `of` is the kind of the event, the SSRC and the payload type of
-/// its stream, and `unit` describes the payload.
+/// Lends the payload of telephone events, and describes their event. `of` is the kind of the event and the SSRC of its stream, and
+/// `unit` describes the payload.
 #[cold]
 #[inline(never)]
 fn lend_telephone(
     port: &mut PortSession,
     told: &mut Event,
-    of: (u32, u32, u8),
+    of: (u32, u32),
+    payload_type: u8,
     unit: Unit,
     payload: Vec<u8>,
 ) -> u32
     ensures done { result ≡ 0 }
-    ensures told { told.new ≡ event_with of.0 of.1 of.2 (vec_ptr port.new.lent) unit }
+    ensures told { told.new ≡ event_with of.0 of.1 payload_type (vec_ptr port.new.lent) unit }
     ensures lent { port.new ≡ record port.old { lent = payload } }
 {
     port.lend(payload);
-    *told = event_with(of.0, of.1, of.2, port.lent.as_ptr(), unit);
+    *told = event_with(of.0, of.1, payload_type, port.lent.as_ptr(), unit);
     status::OK
 }
 
@@ -299,7 +318,7 @@ fn hand_over(port: &mut PortSession, next: SessionEvent<()>, told: &mut Event) -
         }
         SessionEvent::Unit { unit: Err(_), .. } => status::OUT_OF_MEMORY,
         SessionEvent::Begun { ssrc, payload_type } => {
-            lend_nothing(port, told, (0, ssrc, payload_type), status::OK, 0)
+            lend_nothing(port, told, (0, ssrc), payload_type, (status::OK, 0))
         }
         SessionEvent::TooLarge {
             ssrc,
@@ -308,9 +327,9 @@ fn hand_over(port: &mut PortSession, next: SessionEvent<()>, told: &mut Event) -
         } => lend_nothing(
             port,
             told,
-            (2, ssrc, payload_type),
-            status::UNIT_TOO_LARGE,
-            0,
+            (2, ssrc),
+            payload_type,
+            (status::UNIT_TOO_LARGE, 0),
         ),
         SessionEvent::Refused {
             ssrc,
@@ -318,7 +337,7 @@ fn hand_over(port: &mut PortSession, next: SessionEvent<()>, told: &mut Event) -
             fault,
         } => {
             let status = u32::from(fault.number());
-            lend_nothing(port, told, (2, ssrc, payload_type), status, 0)
+            lend_nothing(port, told, (2, ssrc), payload_type, (status, 0))
         }
         SessionEvent::Ended {
             ssrc,
@@ -327,9 +346,9 @@ fn hand_over(port: &mut PortSession, next: SessionEvent<()>, told: &mut Event) -
         } => lend_nothing(
             port,
             told,
-            (3, ssrc, payload_type),
-            status::OK,
-            number_of(why),
+            (3, ssrc),
+            payload_type,
+            (status::OK, number_of(why)),
         ),
         SessionEvent::Telephone {
             ssrc,
@@ -339,16 +358,16 @@ fn hand_over(port: &mut PortSession, next: SessionEvent<()>, told: &mut Event) -
             payload,
         } => {
             let unit = telephone_unit(rtp_time, marker, &payload);
-            lend_telephone(port, told, (6, ssrc, payload_type), unit, payload)
+            lend_telephone(port, told, (6, ssrc), payload_type, unit, payload)
         }
         SessionEvent::Feedback {
             ssrc,
             payload_type,
             packet: Ok(packet),
-        } => lend_packet(port, told, (4, ssrc, payload_type), packet),
-        SessionEvent::Report { packet: Ok(packet) } => lend_packet(port, told, (5, 0, 0), packet),
+        } => lend_packet(port, told, (4, ssrc), payload_type, packet),
+        SessionEvent::Report { packet: Ok(packet) } => lend_packet(port, told, (5, 0), 0, packet),
         SessionEvent::TransportFeedback { packet: Ok(packet) } => {
-            lend_packet(port, told, (7, 0, 0), packet)
+            lend_packet(port, told, (7, 0), 0, packet)
         }
         SessionEvent::Feedback { packet: Err(_), .. } => status::OUT_OF_MEMORY,
         SessionEvent::Report { packet: Err(_) } => status::OUT_OF_MEMORY,
