@@ -24,6 +24,6 @@ pub use times::RtpTimes;
 
 #[doc(inline)]
 pub use values::{
-    ExtensionIds, VIDEO_TIMING_LEN, abs_capture_time_of, audio_level_byte, audio_level_of,
-    extension_value, keep_first, video_timing_bytes, video_timing_of,
+    ExtensionIds, SmallValues, VIDEO_TIMING_LEN, abs_capture_time_of, audio_level_byte,
+    audio_level_of, extension_value, keep_first, video_timing_bytes, video_timing_of,
 };

@@ -129,6 +129,7 @@ impl FeedbackSource {
         ensures { IfOk result (λ packet. AreUnpadded (report_part self.now ++ (description_part self.now ++ transport_feedback self.now.ssrc media_ssrc fci.now ∷ [])) packet.items) }
     {
         let mut out = Vec::new(self.alloc);
+        out.reserve(64 + fci.len())?;
         self.write_report(&mut out)?;
         self.write_description(&mut out)?;
         write_transport_packet(self.ssrc, media_ssrc, fci, &mut out)?;

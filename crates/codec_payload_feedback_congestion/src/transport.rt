@@ -175,6 +175,7 @@ fn write_body(
     ensures { OnOk result (IsBody body.old.items body.new.items reference statuses.now) }
 {
     let mut symbols = Vec::new(alloc);
+    symbols.reserve(statuses.len())?;
     put_symbols(reference, statuses, &mut symbols)?;
     write_chunks(&symbols, body)?;
     put_deltas(reference, statuses, body)?;
@@ -200,6 +201,7 @@ pub fn write_transport_feedback(
     ensures err { OnErr result (out.new.items ≡ out.old.items) }
 {
     let mut bytes = Vec::new(alloc);
+    bytes.reserve(16 + 2 * statuses.len())?;
     bytes.extend_from_slice(&feedback_header(
         base,
         statuses.len() as u16,

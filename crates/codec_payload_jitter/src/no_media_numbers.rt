@@ -1,6 +1,6 @@
 //! Numbers that carry no media: packets with padding only, and telephone events beside audio.
 
-ghost use Rattle.std.specs.Prelude.{◌≡◌, ◌<◌, [], OnOk};
+ghost use Rattle.std.specs.Prelude.{◌≡◌, ◌<◌, ◌==◌, [], length, OnOk};
 ghost use Rattle.std.specs.Vec.{vec_len, vec_capacity};
 ghost use Rattle.std.specs.Option.{option_map};
 ghost use Rattle.codec_payload_buffer.specs.Blanks.{is_right_after};
@@ -44,6 +44,14 @@ impl NoMediaNumbers {
         NoMediaNumbers {
             numbers: Vec::new(alloc),
         }
+    }
+
+    /// Returns whether no number is remembered.
+    #[inline(always)]
+    pub(crate) fn is_empty(&self) -> bool
+        ensures { result ≡ (length self.now.items == 0) }
+    {
+        self.numbers.is_empty()
     }
 
     /// Makes room for one more number.

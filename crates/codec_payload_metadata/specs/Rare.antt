@@ -1,6 +1,7 @@
 -- Rare values of packets, as contracts see them.
 use Rattle.std.specs.Prelude.{ℕ, List, Bool, ◌&&◌, Option, Some, None}
 use Rattle.std.specs.Option.{is_none, option_map}
+use lib.IntN.{ℤ}
 use Rattle.codec_payload_base.specs.declared.wire.RtpHeader.{RtpHeader}
 use Rattle.codec_payload_base.specs.declared.wire.SenderInfo.{SenderInfo}
 use Rattle.codec_payload_base.specs.declared.wire.extension.AbsCaptureTime.{AbsCaptureTime}
@@ -72,6 +73,18 @@ abbrev pub plain_meta : RtpMeta → RtpMeta
 plain_meta m = record m {
   header = record m.header { ext_vals = record m.header.ext_vals { abs_capture_time = None; video_timing = None; layers_allocation = None } };
   last_sender_info = None;
+}
+
+-- the values of header extensions of a packet that has no rare ones
+abbrev pub small_values : (orientation content_type : Option ℕ) → Option ℤ → Option Bool → ExtensionValues
+small_values orientation content_type level voice = record {
+  abs_capture_time = None;
+  video_orientation = orientation;
+  video_content_type = content_type;
+  video_timing = None;
+  layers_allocation = None;
+  audio_level = level;
+  voice_activity = voice;
 }
 
 -- none of these values is rare

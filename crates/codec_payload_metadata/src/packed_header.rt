@@ -2,6 +2,7 @@
 
 ghost use Rattle.std.specs.Prelude.{◌≡◌, IfOk, Option};
 ghost use Rattle.codec_payload_base.specs.Extensions.{no_values};
+ghost use Rattle.codec_payload_metadata.specs.Rare.{small_values};
 
 use crate::known::{PlainHeader, Rare};
 use codec_payload_base::wire::{Pt, RtpHeader};
@@ -66,6 +67,29 @@ impl PackedHeader {
                 video_content_type: None,
                 audio_level: None,
                 voice_activity: None,
+            },
+        }
+    }
+
+    /// Replaces the values of header extensions by these small ones. Allocates nothing.
+    #[inline(always)]
+    pub fn with_small_values(
+        self,
+        video_orientation: Option<u8>,
+        video_content_type: Option<u8>,
+        audio_level: Option<i8>,
+        voice_activity: Option<bool>,
+    ) -> Self
+        ensures { result ≡ record self { ext_vals = small_values video_orientation video_content_type audio_level voice_activity } }
+    {
+        PackedHeader {
+            rare: None,
+            plain: PlainHeader {
+                video_orientation,
+                video_content_type,
+                audio_level,
+                voice_activity,
+                ..self.plain
             },
         }
     }

@@ -5,7 +5,7 @@ ghost use Rattle.std.specs.Option.{option_map};
 ghost use Rattle.codec_payload_codec.specs.Depacketizers.{depacketizer_state_of, is_built_in_depacketizer};
 ghost use Rattle.codec_payload_jitter.specs.Missing.{missing_numbers};
 ghost use Rattle.codec_payload_jitter.specs.OwnReceiving.{OwnStores};
-ghost use Rattle.codec_payload_jitter.specs.Receiving.{deadline_of, is_pressed};
+ghost use Rattle.codec_payload_jitter.specs.Receiving.{deadline_of, is_idle, is_pressed};
 ghost use Rattle.codec_payload_receiver.specs.Bounds.{counters_with};
 ghost use Rattle.codec_payload_datagrams.specs.Kinds.{datagram_at, datagram_of, retransmitted_under, takes_memory};
 ghost use Rattle.codec_payload_numbers.specs.Reports.{report_of, reported};
@@ -667,6 +667,14 @@ impl<B: Depacketizer> Receiver<B> {
         ensures { result ≡ self.now.ssrc }
     {
         self.ssrc
+    }
+
+    /// Returns whether pops change nothing until a packet arrives. `false` says nothing. See [`JitterBuffer::is_idle`].
+    #[inline(always)]
+    pub fn is_idle(&self) -> bool
+        ensures { result ≡ is_idle self.now.packets }
+    {
+        self.packets.is_idle()
     }
 
     /// Returns the number of held packets.

@@ -51,16 +51,34 @@ impl StreamKinds {
     fn packed_header_for(&self, header: &PacketHeader<'_>) -> Result<PackedHeader, AllocError>
         ensures { IfOk result (λ packed. packed ≡ header_for self.now (header_of header.now)) }
     {
-        if header.extension.is_some() {
-            return PackedHeader::new(self.alloc, &self.header_for(header));
-        }
-        Ok(PackedHeader::plain(
+        let plain = PackedHeader::plain(
             Pt::new_with_value(self.payload_type),
             header.sequence_number,
             header.timestamp,
             header.ssrc,
             header.marker,
-        ))
+        );
+        if header.extension.is_none() {
+            return Ok(plain);
+        }
+        match self.ids.small_values(&header.extension) {
+            Some(values) => Ok(plain.with_small_values(
+                values.video_orientation,
+                values.video_content_type,
+                values.audio_level,
+                values.voice_activity,
+            )),
+            None => self.whole_header_for(header),
+        }
+    }
+
+    /// Returns the same header of a packet with other values than small ones. Most packets have none.
+    #[cold]
+    #[inline(never)]
+    fn whole_header_for(&self, header: &PacketHeader<'_>) -> Result<PackedHeader, AllocError>
+        ensures { IfOk result (λ packed. packed ≡ header_for self.now (header_of header.now)) }
+    {
+        PackedHeader::new(self.alloc, &self.header_for(header))
     }
 
     /// Stores a packet with media in the jitter buffer. The header of a retransmission has the original number and SSRC.

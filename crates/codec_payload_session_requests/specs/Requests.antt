@@ -3,7 +3,7 @@ use Rattle.std.specs.Prelude.{◌≡◌, ◌⊎◌, ℕ, ◌+◌, ◌-◌, ◌*�
 use Rattle.std.specs.Global.{Vec}
 use Rattle.std.specs.Option.{option_map}
 use Rattle.std.specs.declared.alloc.AllocError.{AllocError}
-use Rattle.codec_payload_feedback.specs.Feedback.{IsFeedback, Requests, Source, after_answered, after_feedback, deadline_of, keyframe_is_due, new_requests, numbers_due, updated, wanting}
+use Rattle.codec_payload_feedback.specs.Feedback.{IsFeedback, Requests, Source, after_answered, after_feedback, deadline_of, is_idle, keyframe_is_due, new_requests, numbers_due, updated, wanting}
 use Rattle.codec_payload_feedback.specs.declared.requests.RequestCounts.{RequestCounts}
 use Rattle.codec_payload_jitter.specs.Missing.{missing_numbers}
 use Rattle.codec_payload_feedback_requests.specs.NackSchedule.{requested_by}
@@ -220,6 +220,11 @@ is_none (n ∷ ns) = false
 -- nothing is missing that is requested, and no keyframe is wanted
 abbrev pub is_calm : Asking → Receiver → Bool
 is_calm a r = not (wants_keyframe a r) && is_none (missing_numbers r.packets (min a.most 1))
+
+-- nothing is requested, and nothing is to be requested
+abbrev pub are_idle : Option Asking → Receiver → Bool
+are_idle None r = true
+are_idle (Some a) r = is_idle a.requests && is_calm a r
 
 -- the same of a stream; one without requests requests nothing
 abbrev pub IsCalm : Option Asking → Receiver → Type 0

@@ -1,8 +1,9 @@
 //! What a stream of a session requests: missing packets and keyframes.
 
-ghost use Rattle.std.specs.Prelude.{◌≡◌, ◌<◌, ℕ, IfOk, Option, true};
+ghost use Rattle.std.specs.Prelude.{◌≡◌, ◌<◌, ◌&&◌, ℕ, IfOk, Option, true};
 ghost use Rattle.codec_payload_session_requests.specs.Requests.{MayRest};
-ghost use Rattle.codec_payload_session_requests.specs.Requests.{IsCalm, is_calm};
+ghost use Rattle.codec_payload_session_requests.specs.Requests.{IsCalm, are_idle, is_calm};
+ghost use Rattle.codec_payload_feedback.specs.Feedback.{is_idle};
 ghost use Rattle.codec_payload_session_requests.specs.Requests.{Asks, Refreshes, after_number, answer_by, answered_if, asked_by, feedback_by, follows_round_trip, has_requested, heard_by, is_heard, is_patient, number_at, original_number, request_counts_of, requests_due, range_for, range_if, round_trip_of, source_for, spaced, wait_by, wait_for, wait_of, wait_within, wants_keyframe};
 
 use crate::named::NamedReceiver;
@@ -141,6 +142,14 @@ impl Feedback {
         !self.wants_keyframe(receiver) && receiver.missing(self.most.min(1)).next().is_none()
     }
 
+    /// Returns whether nothing is requested, and nothing is to be requested.
+    #[inline(always)]
+    fn is_idle(&self, receiver: &Receiver) -> bool
+        ensures { result ≡ (is_idle self.now.requests && is_calm self.now receiver.now) }
+    {
+        self.requests.is_idle() && self.is_calm(receiver)
+    }
+
     /// Returns until when what is requested changes by no other cause than a request that is due. `calm` says that nothing is to be
     /// requested.
     #[inline(always)]
@@ -188,7 +197,7 @@ impl Feedback {
         ensures calm { result.1 ≡ true → is_calm self.new receiver.new ≡ true }
         ensures same { receiver.new ≡ receiver.old }
     {
-        if self.requests.is_idle() && self.is_calm(receiver.inner()) {
+        if self.is_idle(receiver.inner()) {
             return (Ok(None), true);
         }
         (self.take_requests(now, last, receiver), false)
@@ -265,6 +274,17 @@ pub fn requests_due(feedback: &Option<Feedback>) -> Option<u64>
             None => None,
         },
         None => None,
+    }
+}
+
+/// Returns whether nothing is requested, and nothing is to be requested.
+#[inline(always)]
+pub fn are_idle(feedback: &Option<Feedback>, receiver: &Receiver) -> bool
+    ensures { result ≡ are_idle feedback.now receiver.now }
+{
+    match feedback {
+        Some(feedback) => feedback.is_idle(receiver),
+        None => true,
     }
 }
 

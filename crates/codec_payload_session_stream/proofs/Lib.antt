@@ -1,6 +1,7 @@
 pub mod CalmLemmas
 pub mod CheckLemmas
 mod DeadlineLemmas
+pub mod DoneLemmas
 pub mod DueLemmas
 pub mod PlaceLemmas
 pub mod PopAgainLemmas

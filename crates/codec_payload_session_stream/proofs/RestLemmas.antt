@@ -116,7 +116,7 @@ or_first true b c is = refl
 or_first false true c is = refl
 or_first false false c is = absurd (cc)
 
-never_overdue : (max_wait : Option ℕ) (now : ℕ) → is_overdue max_wait now None ≡ false
+pub never_overdue : (max_wait : Option ℕ) (now : ℕ) → is_overdue max_wait now None ≡ false
 never_overdue None now = refl
 never_overdue (Some m) now = refl
 
@@ -139,9 +139,11 @@ waits_same p now later drained few before =
 
 -- ---- pops
 
-counted_twice : (c : PacketCounters) (l m : Left) → m.incomplete ≡ 0 → m.skipped ≡ 0 → m.refused ≡ 0 → counted_pop (counted_pop c 0 0 l) 0 0 m ≡ counted_pop c 0 0 l
-counted_twice c l m incomplete skipped refused =
-    ap (λ (x : Left). counted_pop (counted_pop c 0 0 l) 0 0 x) (all_none m incomplete skipped refused) ∙ again (c.units + 0) (c.released + 0) (c.left + (l.incomplete + l.skipped + l.refused)) (c.incomplete + l.incomplete) (c.skipped + l.skipped) (c.refused + l.refused)
+pub counted_twice : (c : PacketCounters) (units released : ℕ) (l m : Left) → m.incomplete ≡ 0 → m.skipped ≡ 0 → m.refused ≡ 0
+    → counted_pop (counted_pop c units released l) 0 0 m ≡ counted_pop c units released l
+counted_twice c units released l m incomplete skipped refused =
+    ap (λ (x : Left). counted_pop (counted_pop c units released l) 0 0 x) (all_none m incomplete skipped refused)
+    ∙ again (c.units + units) (c.released + released) (c.left + (l.incomplete + l.skipped + l.refused)) (c.incomplete + l.incomplete) (c.skipped + l.skipped) (c.refused + l.refused)
   where
     parts : ℕ → ℕ → ℕ → ℕ → ℕ → ℕ → PacketCounters
     parts a b d e f g = record c { units = a; released = b; left = d; incomplete = e; skipped = f; refused = g }
@@ -168,11 +170,11 @@ waits_on r h c l due counted =
     let pops : Pops s None s = ([], (none, due)) in
     let twice : counted_pop c 0 0 (left_of s None s pops) ≡ c =
     subst (λ (k : PacketCounters). counted_pop k 0 0 (left_of s None s pops) ≡ k) (sym counted)
-    (counted_twice (settled r).counters l (left_of s None s pops) (omega arith) refl refl) in
+    (counted_twice (settled r).counters 0 0 l (left_of s None s pops) (omega arith) refl refl) in
     (s, pops, ap (λ (k : PacketCounters). record (waited r h c) { counters = k }) (sym twice))
 
 -- a jitter buffer that is settled pops as it is
-as_settled : (now : ℕ) (t : Receiving) (wait : Option ℕ) → settled t ≡ t → waiting_at t now ≡ wait → PopsWith wait t None t → PopsNothing now t
+pub as_settled : (now : ℕ) (t : Receiving) (wait : Option ℕ) → settled t ≡ t → waiting_at t now ≡ wait → PopsWith wait t None t → PopsNothing now t
 as_settled now t wait same waits pops =
     subst (λ (x : Receiving). PopsWith (waiting_at x now) x None t) (sym same) (subst (λ (w : Option ℕ). PopsWith w t None t) (sym waits) pops)
 

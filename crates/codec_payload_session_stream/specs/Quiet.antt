@@ -1,9 +1,10 @@
 -- Streams that are not asked: until a moment they have no event, and nothing changes.
 use Rattle.std.specs.Prelude.{◌≡◌, ◌⊎◌, ◌<◌, ℕ, zero, suc, min, ◌^◌, ◌==◌, ◌&&◌, not, if◌then◌else◌, Bool, true, false, List, [], ◌∷◌, Option, Some, None, Ok}
 use Rattle.codec_payload_jitter.specs.Missing.{missing_numbers}
-use Rattle.codec_payload_jitter.specs.Receiving.{PopsWith, Receiving, deadline_of, settled, waiting_at}
+use Rattle.codec_payload_jitter.specs.Receiving.{PopsWith, Receiving, deadline_of, is_idle, settled, waiting_at}
 use Rattle.codec_payload_receiver.specs.Sessions.{Session as Receiver}
-use Rattle.codec_payload_session_requests.specs.Requests.{Asking, Asks, is_heard, wants_keyframe, is_none, is_calm, MayRest}
+use Rattle.codec_payload_session_requests.specs.Requests.{Asking, Asks, are_idle, is_heard, wants_keyframe, is_none, is_calm, MayRest}
+use Rattle.codec_payload_session_stream.specs.Changes.{is_playing}
 use Rattle.codec_payload_session_stream.specs.Streams.{StreamState, earlier, request_deadline, work_deadline}
 use Rattle.codec_payload_session_stream.specs.declared.stream.Stage.{Stage}
 use Rattle.codec_payload_session_stream.specs.declared.stream.Stage.TheVariants as stages
@@ -43,6 +44,10 @@ IsQuietUntil zero work told stage last feedback r = Unit {0}
 IsQuietUntil (suc until) work told stage last feedback r = IsKnown (suc until) work told stage last feedback r
 
 -- ---- when it is known
+
+-- after a unit of an announced stream: nothing is left to pop or to request until a datagram arrives
+abbrev pub is_done : StreamState → Bool
+is_done s = is_playing s.stage && is_idle s.receiver.packets && are_idle s.feedback s.receiver
 
 -- the time comes before the deadline, if there is one
 abbrev pub IsBefore : Option ℕ → ℕ → Type 0

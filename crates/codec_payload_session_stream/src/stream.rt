@@ -6,7 +6,7 @@ ghost use Rattle.codec_payload_session_stream.specs.Changes.{is_left_behind, is_
 ghost use Rattle.codec_payload_session_formats.specs.Checks.{can_begin};
 ghost use Rattle.codec_payload_session_stream.specs.Dues.{key_of};
 ghost use Rattle.codec_payload_session_stream.specs.Pairs.{paired_if};
-ghost use Rattle.codec_payload_session_stream.specs.Quiet.{RestsUntil};
+ghost use Rattle.codec_payload_session_stream.specs.Quiet.{RestsUntil, is_done};
 ghost use Rattle.codec_payload_session_requests.specs.Requests.{IsCalm, wait_by};
 ghost use Rattle.codec_payload_rtp.specs.RtpReading.{rtp_at};
 ghost use Rattle.codec_payload_session_stream.specs.Streams.{Begins, Drains, IsInfo, Pops, RequestsBy, RestsBy, Steps, Takes, answer_for, asked_for, due_of, end_of, heard, heard_unless, is_accepted, is_ending, is_former, is_keyframe, is_no_memory, is_of, is_probation, late_followed, left, left_when, payload_size, received, step_of, step_with, waiting_for, waiting_if, work_deadline};
@@ -36,8 +36,8 @@ use codec_payload_session_formats::names::{StreamNameIds, StreamNames};
 use codec_payload_session_requests::late::{follow, late_for, limit_by};
 use codec_payload_session_requests::named::NamedReceiver;
 use codec_payload_session_requests::requests::{
-    Feedback, KeyframeAnswer, answer_if, ask_keyframe, hear, request_counts, requests_due,
-    rest_time, round_trip, wait_by,
+    Feedback, KeyframeAnswer, answer_if, are_idle, ask_keyframe, hear, request_counts,
+    requests_due, rest_time, round_trip, wait_by,
 };
 use std::alloc::{AllocError, Global};
 use std::marker::Model;
@@ -497,6 +497,7 @@ impl StreamState {
     /// Returns the next unit or refused frame of the stream, or what follows without one.
     #[inline(always)]
     fn pop(&mut self, now: Ticks, unit: &mut PoppedUnit) -> Step<()>
+        requires told { self.old.told ≡ true }
         ensures { Pops now self.old (step_to result unit.new) self.new }
     {
         self.quiet_until = 0;
@@ -505,6 +506,10 @@ impl StreamState {
             Some(popped) => {
                 let keyframe = is_keyframe(&popped, self.receiver.inner());
                 answer_if(&mut self.feedback, keyframe);
+                if self.is_done() {
+                    self.quiet_until = u64::MAX;
+                    self.work = 0;
+                }
                 step_with(popped)
             }
             None => {
@@ -519,6 +524,17 @@ impl StreamState {
                 step
             }
         }
+    }
+
+    /// Returns whether the stream has no event until a datagram arrives, after a unit: then the next poll need not ask it. `false` says
+    /// nothing.
+    #[inline(always)]
+    fn is_done(&self) -> bool
+        ensures { result ≡ is_done self.now }
+    {
+        is_playing(self.stage)
+            && self.receiver.inner().is_idle()
+            && are_idle(&self.feedback, self.receiver.inner())
     }
 
     /// Returns until when the stream has no event, if it had none at `now`, and none of its packets left. 0: it is not known.

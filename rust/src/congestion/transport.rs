@@ -180,6 +180,7 @@ fn write_body(
     body: &mut Vec<u8>,
 ) -> Result<(), AllocError> {
     let mut symbols = Vec::new();
+    symbols.try_room(statuses.len())?;
     put_symbols(reference, statuses, &mut symbols)?;
     write_chunks(&symbols, body)?;
     put_deltas(reference, statuses, body)?;
@@ -207,6 +208,7 @@ pub fn write_transport_feedback(
             && fitting(statuses.len(), reference, statuses) == statuses.len()
     );
     let mut bytes = Vec::new();
+    bytes.try_room(16 + 2 * statuses.len())?;
     bytes.try_extend(&feedback_header(
         base,
         statuses.len() as u16,

@@ -3,7 +3,7 @@
 //! The requests of one stream, and the compound packets that carry them.
 
 use crate::congestion::packet::write_transport_packet;
-use crate::memory::AllocError;
+use crate::memory::{AllocError, TryVec};
 use crate::requests::keyframe::KeyframeRequests;
 use crate::requests::nack::{NackSchedule, NackSettings};
 use crate::rtcp::nack::pack_numbers;
@@ -89,6 +89,7 @@ impl FeedbackSource {
         fci: &[u8],
     ) -> Result<Vec<u8>, AllocError> {
         let mut out = Vec::new();
+        out.try_room(64 + fci.len())?;
         self.write_report(&mut out)?;
         self.write_description(&mut out)?;
         write_transport_packet(self.ssrc, media_ssrc, fci, &mut out)?;

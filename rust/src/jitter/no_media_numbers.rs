@@ -25,6 +25,12 @@ impl NoMediaNumbers {
         }
     }
 
+    /// Returns whether no number is remembered.
+    #[inline(always)]
+    pub(crate) fn is_empty(&self) -> bool {
+        self.numbers.is_empty()
+    }
+
     /// Makes room for one more number.
     pub(crate) fn make_room(&mut self) -> Result<(), AllocError> {
         self.numbers.try_room(1)

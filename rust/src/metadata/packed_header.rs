@@ -54,6 +54,27 @@ impl PackedHeader {
         }
     }
 
+    /// Replaces the values of header extensions by these small ones. Allocates nothing.
+    #[inline(always)]
+    pub fn with_small_values(
+        self,
+        video_orientation: Option<u8>,
+        video_content_type: Option<u8>,
+        audio_level: Option<i8>,
+        voice_activity: Option<bool>,
+    ) -> Self {
+        PackedHeader {
+            rare: None,
+            plain: PlainHeader {
+                video_orientation,
+                video_content_type,
+                audio_level,
+                voice_activity,
+                ..self.plain
+            },
+        }
+    }
+
     /// Returns the sequence number.
     #[inline(always)]
     pub fn sequence_number(&self) -> u16 {

@@ -115,9 +115,22 @@ impl ExtensionIds {
         }
     }
 
-    /// The values of these elements.
+    /// Returns the values of one byte in the extension of a packet, as [`ExtensionIds::values`] does. `None`: an element has the id of
+    /// another value. Most packets have none of those, and copying the room for them takes longer than reading the elements. Reads the
+    /// elements once, and does not allocate.
+    pub fn small_values(&self, extension: &Option<HeaderExtension<'_>>) -> Option<SmallValues> {
+        let Some(extension) = extension else {
+            return Some(SmallValues::default());
+        };
+        match extension.elements() {
+            Some(elements) => self.small_among(elements),
+            None => Some(SmallValues::default()),
+        }
+    }
+
+    /// Returns the first element of each id.
     #[inline(always)]
-    fn values_among(&self, elements: Elements<'_>) -> ExtensionValues {
+    fn find<'a>(&self, elements: Elements<'a>) -> FoundElements<'a> {
         let mut capture_time = None;
         let mut orientation = None;
         let mut content_type = None;
@@ -132,22 +145,76 @@ impl ExtensionIds {
             keep_first(&mut allocation, self.layers_allocation, &element);
             keep_first(&mut level, self.audio_level, &element);
         }
-        let level = byte_of(level);
+        FoundElements {
+            capture_time,
+            orientation,
+            content_type,
+            timing,
+            allocation,
+            level,
+        }
+    }
+
+    /// The values of one byte of these elements. `None`: one has the id of another value.
+    #[inline(always)]
+    fn small_among(&self, elements: Elements<'_>) -> Option<SmallValues> {
+        let found = self.find(elements);
+        if found.capture_time.is_some() || found.timing.is_some() || found.allocation.is_some() {
+            return None;
+        }
+        let level = byte_of(found.level);
+        Some(SmallValues {
+            video_orientation: byte_of(found.orientation),
+            video_content_type: byte_of(found.content_type),
+            audio_level: level_in(level),
+            voice_activity: voice_in(level),
+        })
+    }
+
+    /// The values of these elements.
+    #[inline(always)]
+    fn values_among(&self, elements: Elements<'_>) -> ExtensionValues {
+        let found = self.find(elements);
+        let level = byte_of(found.level);
         let mut values = ExtensionValues {
-            abs_capture_time: capture_time_of(capture_time),
-            video_orientation: byte_of(orientation),
-            video_content_type: byte_of(content_type),
-            video_timing: timing_of(timing),
+            abs_capture_time: capture_time_of(found.capture_time),
+            video_orientation: byte_of(found.orientation),
+            video_content_type: byte_of(found.content_type),
+            video_timing: timing_of(found.timing),
             layers_allocation: None,
             audio_level: level_in(level),
             voice_activity: voice_in(level),
         };
         // Few packets have it, and it has room for 255 bytes.
-        if let Some(bytes) = allocation {
+        if let Some(bytes) = found.allocation {
             values.layers_allocation = VideoLayersAllocation::new(bytes);
         }
         values
     }
+}
+
+/// The values of header extensions that are one byte each. `None`: the extension is absent.
+#[derive(Clone, Copy, Debug, Default, PartialEq, Eq)]
+pub struct SmallValues {
+    /// The byte of the coordination of video orientation.
+    pub video_orientation: Option<u8>,
+    /// The byte of video-content-type.
+    pub video_content_type: Option<u8>,
+    /// The level of the audio in dBov, 0 and below.
+    pub audio_level: Option<i8>,
+    /// Whether the audio holds speech.
+    pub voice_activity: Option<bool>,
+}
+
+/// The bytes of the first element with each id of an [`ExtensionIds`].
+#[derive(Clone, Copy, Debug)]
+struct FoundElements<'a> {
+    capture_time: Option<&'a [u8]>,
+    orientation: Option<&'a [u8]>,
+    content_type: Option<&'a [u8]>,
+    timing: Option<&'a [u8]>,
+    allocation: Option<&'a [u8]>,
+    level: Option<&'a [u8]>,
 }
 
 /// Keeps the bytes of an element, if it has this id and nothing was kept so far. `None`: no element has the id. So a loop over the

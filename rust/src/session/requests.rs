@@ -116,6 +116,12 @@ impl Feedback {
         !self.wants_keyframe(receiver) && receiver.missing(self.most.min(1)).next().is_none()
     }
 
+    /// Returns whether nothing is requested, and nothing is to be requested.
+    #[inline(always)]
+    fn is_idle(&self, receiver: &Receiver) -> bool {
+        self.requests.is_idle() && self.is_calm(receiver)
+    }
+
     /// Returns until when what is requested changes by no other cause than a request that is due. `calm` says that nothing is to be
     /// requested.
     #[inline(always)]
@@ -153,7 +159,7 @@ impl Feedback {
         last: u64,
         receiver: &mut NamedReceiver,
     ) -> (Result<Option<Vec<u8>>, AllocError>, bool) {
-        if self.requests.is_idle() && self.is_calm(receiver.inner()) {
+        if self.is_idle(receiver.inner()) {
             return (Ok(None), true);
         }
         (self.take_requests(now, last, receiver), false)
@@ -218,6 +224,15 @@ pub(crate) fn requests_due(feedback: &Option<Feedback>) -> Option<u64> {
             None => None,
         },
         None => None,
+    }
+}
+
+/// Returns whether nothing is requested, and nothing is to be requested.
+#[inline(always)]
+pub fn are_idle(feedback: &Option<Feedback>, receiver: &Receiver) -> bool {
+    match feedback {
+        Some(feedback) => feedback.is_idle(receiver),
+        None => true,
     }
 }
 

@@ -16,8 +16,8 @@ use crate::session::named::NamedReceiver;
 use crate::session::names::{StreamNameIds, StreamNames};
 use crate::session::reports::SenderClock;
 use crate::session::requests::{
-    Feedback, KeyframeAnswer, answer_if, ask_keyframe, hear, request_counts, requests_due,
-    rest_time, round_trip, wait_by,
+    Feedback, KeyframeAnswer, answer_if, are_idle, ask_keyframe, hear, request_counts,
+    requests_due, rest_time, round_trip, wait_by,
 };
 use crate::session::times::{LAST_KEY, earlier, key_of, or_max, or_none, time_of};
 use crate::stream::parsed::ParsedDatagram;
@@ -415,6 +415,10 @@ impl StreamState {
             Some(popped) => {
                 let keyframe = is_keyframe(&popped, self.receiver.inner());
                 answer_if(&mut self.feedback, keyframe);
+                if self.is_done() {
+                    self.quiet_until = u64::MAX;
+                    self.work = 0;
+                }
                 step_with(popped)
             }
             None => {
@@ -429,6 +433,15 @@ impl StreamState {
                 step
             }
         }
+    }
+
+    /// Returns whether the stream has no event until a datagram arrives, after a unit: then the next poll need not ask it. `false` says
+    /// nothing.
+    #[inline(always)]
+    fn is_done(&self) -> bool {
+        is_playing(self.stage)
+            && self.receiver.inner().is_idle()
+            && are_idle(&self.feedback, self.receiver.inner())
     }
 
     /// Returns until when the stream has no event, if it had none at `now`, and none of its packets left. 0: it is not known.

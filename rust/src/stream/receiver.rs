@@ -588,6 +588,12 @@ impl<B: Depacketizer> Receiver<B> {
         self.ssrc
     }
 
+    /// Returns whether pops change nothing until a packet arrives. `false` says nothing. See [`JitterBuffer::is_idle`].
+    #[inline(always)]
+    pub fn is_idle(&self) -> bool {
+        self.packets.is_idle()
+    }
+
     /// Returns the number of held packets.
     pub fn held(&self) -> usize {
         self.packets.held()

@@ -40,16 +40,32 @@ impl StreamKinds {
     /// Returns the same header, packed. Allocates only for rare values.
     #[inline(always)]
     fn packed_header_for(&self, header: &PacketHeader<'_>) -> Result<PackedHeader, AllocError> {
-        if header.extension.is_some() {
-            return PackedHeader::new(&self.header_for(header));
-        }
-        Ok(PackedHeader::plain(
+        let plain = PackedHeader::plain(
             Pt::new_with_value(self.payload_type),
             header.sequence_number,
             header.timestamp,
             header.ssrc,
             header.marker,
-        ))
+        );
+        if header.extension.is_none() {
+            return Ok(plain);
+        }
+        match self.ids.small_values(&header.extension) {
+            Some(values) => Ok(plain.with_small_values(
+                values.video_orientation,
+                values.video_content_type,
+                values.audio_level,
+                values.voice_activity,
+            )),
+            None => self.whole_header_for(header),
+        }
+    }
+
+    /// Returns the same header of a packet with other values than small ones. Most packets have none.
+    #[cold]
+    #[inline(never)]
+    fn whole_header_for(&self, header: &PacketHeader<'_>) -> Result<PackedHeader, AllocError> {
+        PackedHeader::new(&self.header_for(header))
     }
 
     /// Stores a packet with media in the jitter buffer. The header of a retransmission has the original number and SSRC.

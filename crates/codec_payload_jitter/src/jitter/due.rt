@@ -1,7 +1,7 @@
 //! Which frames are due at a time.
 
 ghost use Rattle.std.specs.Prelude.{◌≡◌};
-ghost use Rattle.codec_payload_jitter.specs.Receiving.{has_little_room, is_pressed, settled, waiting_at};
+ghost use Rattle.codec_payload_jitter.specs.Receiving.{has_little_room, is_idle, is_pressed, settled, waiting_at};
 
 use super::JitterBuffer;
 use crate::waiting::overdue;
@@ -30,6 +30,20 @@ impl<B: Depacketizer> JitterBuffer<B> {
         ensures { result ≡ has_little_room self.now }
     {
         self.buffer.limit().saturating_sub(self.buffer.held()) < self.room
+    }
+
+    /// Returns whether no frame is complete, and pops go on to wait for as many frames as the latest one did. Then no pop changes
+    /// anything until a packet arrives, or the wait limits change. `false` says nothing.
+    #[inline(always)]
+    pub fn is_idle(&self) -> bool
+        ensures { result ≡ is_idle self.now }
+    {
+        self.buffer.ready() == 0
+            && self.no_media_numbers.is_empty()
+            && !self.ended
+            && self.buffer.cutoff().is_some()
+            && self.buffer.hold_back() == self.wait_limits.most_held_back()
+            && !self.has_little_room()
     }
 
     /// Returns how many complete frames wait behind a gap at that time. `None`: the stream is starting, and no frame is

@@ -5,8 +5,8 @@ use Rattle.codec_payload_feedback_congestion.proofs.transport.write_transport_fe
 
 pub returns-clause-ok : goal.returns-clause-ok
 returns-clause-ok c =
-    let none : c.new-bytes.result.items ≡ [] = search rules in
-    let head : c.extend_from_slice.new.self.items ≡ c.new-bytes.result.items ++ c.feedback_header.result = search rules in
+    let none : c.reserve.new.self.items ≡ [] = search rules in
+    let head : c.extend_from_slice.new.self.items ≡ c.reserve.new.self.items ++ c.feedback_header.result = search rules in
     let number : c.from.result ≡ c.args.counter = omega arith in
     let is : c.extend_from_slice.new.self.items ≡ feedback_header c.args.base (length c.args.statuses.now) (c.args.reference + c.args.counter) =
     head ∙ ap (λ (t : List ℕ). t ++ c.feedback_header.result) none ∙ c.feedback_header.ensures ∙ ap (λ (k : ℕ). feedback_header c.args.base (length c.args.statuses.now) (c.args.reference + k)) number in

@@ -3,7 +3,7 @@ use Rattle.std.specs.Prelude.{if◌then◌else◌, ◌==◌}
 use Rattle.std.specs.Option.{option_map}
 use Rattle.codec_payload_rtp.specs.Elements.{Element, element_of, elements_left}
 use Rattle.codec_payload_rtp.specs.ExtensionFormats.{bytes_for, first_of}
-use Rattle.codec_payload_rtp.proofs.values.ExtensionIds.values_among.Goals as goal
+use Rattle.codec_payload_rtp.proofs.values.ExtensionIds.find.Goals as goal
 
 chosen : (is : Bool) (bytes : List ℕ) (rest : Option (List ℕ)) → first_of (if is then Some bytes else None) rest ≡ (if is then Some bytes else rest)
 chosen true bytes rest = refl
@@ -38,19 +38,8 @@ loop-element-preserved c =
       level = kept_on c.args.self.now.audio_level _ _ (element_of c.in-Some.element) (elements_left c.next.new.self) (elements_left c.loop-element.element-iterator) (elements_left c.args.elements) c.keep_first-in-loop-element-5.ensures first c.loop-element.invariant.level;
     }
 
-pub returns-in-Some-allocation : goal.returns-in-Some-allocation
-returns-in-Some-allocation c =
-    let none : elements_left c.loop-element.element-iterator ≡ [] = search rules in
-    let capture_time = at_end c.args.self.now.abs_capture_time (option_map (λ b. b.now) c.loop-element.capture_time) (elements_left c.loop-element.element-iterator) (elements_left c.args.elements) none c.loop-element.invariant.capture_time in
-    let orientation = at_end c.args.self.now.video_orientation (option_map (λ b. b.now) c.loop-element.orientation) (elements_left c.loop-element.element-iterator) (elements_left c.args.elements) none c.loop-element.invariant.orientation in
-    let content_type = at_end c.args.self.now.video_content_type (option_map (λ b. b.now) c.loop-element.content_type) (elements_left c.loop-element.element-iterator) (elements_left c.args.elements) none c.loop-element.invariant.content_type in
-    let timing = at_end c.args.self.now.video_timing (option_map (λ b. b.now) c.loop-element.timing) (elements_left c.loop-element.element-iterator) (elements_left c.args.elements) none c.loop-element.invariant.timing in
-    let allocation = at_end c.args.self.now.layers_allocation (option_map (λ b. b.now) c.loop-element.allocation) (elements_left c.loop-element.element-iterator) (elements_left c.args.elements) none c.loop-element.invariant.allocation in
-    let level = at_end c.args.self.now.audio_level (option_map (λ b. b.now) c.loop-element.level) (elements_left c.loop-element.element-iterator) (elements_left c.args.elements) none c.loop-element.invariant.level in
-    search (rules, capture_time, orientation, content_type, timing, allocation, level)
-
-pub returns-in_default : goal.returns-in_default
-returns-in_default c =
+pub returns : goal.returns
+returns c =
     let none : elements_left c.loop-element.element-iterator ≡ [] = search rules in
     let capture_time = at_end c.args.self.now.abs_capture_time (option_map (λ b. b.now) c.loop-element.capture_time) (elements_left c.loop-element.element-iterator) (elements_left c.args.elements) none c.loop-element.invariant.capture_time in
     let orientation = at_end c.args.self.now.video_orientation (option_map (λ b. b.now) c.loop-element.orientation) (elements_left c.loop-element.element-iterator) (elements_left c.args.elements) none c.loop-element.invariant.orientation in

@@ -2,7 +2,7 @@ use Rattle.std.proofs.Common.{◌≡◌}
 use Rattle.std.specs.Option.{option_map}
 use Rattle.codec_payload_rtp.specs.Elements.{elements_left}
 use Rattle.codec_payload_rtp.specs.ExtensionFormats.{bytes_for, first_of}
-use Rattle.codec_payload_rtp.proofs.values.ExtensionIds.values_among.Given as goal
+use Rattle.codec_payload_rtp.proofs.values.ExtensionIds.find.Given as goal
 
 abbrev pub invariant-loop-element : goal.invariant-loop-element
 invariant-loop-element l = record {
