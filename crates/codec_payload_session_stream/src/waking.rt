@@ -74,6 +74,7 @@ impl Waking {
     }
 
     /// Notes the time of the stream that was excepted.
+    #[inline(always)]
     fn note(&mut self, streams: &[StreamState])
         requires { IsTimed self.old streams.now }
         ensures { AllTimed self.old.idle_timeout self.new streams.now }
@@ -83,6 +84,7 @@ impl Waking {
     }
 
     /// Excepts the stream at this place.
+    #[inline(always)]
     fn leave_out(&mut self, place: usize, streams: &[StreamState])
         requires timed { AllTimed self.old.idle_timeout self.old streams.now }
         requires within { place < length streams.now }
@@ -118,6 +120,7 @@ impl Waking {
     }
 
     /// Notes or finds the time of each stream. Without a stream, or if memory runs out, it returns `false`.
+    #[inline(always)]
     pub fn find(&mut self, alloc: Global, streams: &[StreamState], idle_timeout: u64) -> bool
         requires { IsBound self.old streams.now }
         ensures found { result ≡ true → AllTimed idle_timeout self.new streams.now }

@@ -61,12 +61,14 @@ impl Waking {
     }
 
     /// Notes the time of the stream that was excepted.
+    #[inline(always)]
     fn note(&mut self, streams: &[StreamState]) {
         let time = streams[self.fed].wakes_at(self.idle_timeout);
         self.times.set(self.fed, time);
     }
 
     /// Excepts the stream at this place.
+    #[inline(always)]
     fn leave_out(&mut self, place: usize, _streams: &[StreamState]) {
         self.times.set(place, u64::MAX);
         self.until = self.times.least();
@@ -91,6 +93,7 @@ impl Waking {
     }
 
     /// Notes or finds the time of each stream. Without a stream, or if memory runs out, it returns `false`.
+    #[inline(always)]
     pub(crate) fn find(&mut self, streams: &[StreamState], idle_timeout: u64) -> bool {
         if self.known && self.idle_timeout == idle_timeout {
             self.note(streams);

@@ -8,9 +8,9 @@ use Rattle.codec_payload_feedback.proofs.requests.FeedbackSource.transport_packe
 
 pub returns : goal.returns
 returns c =
-    let none : c.new-out.result.items ≡ [] = search rules in
+    let none : c.reserve.new.self.items ≡ [] = search rules in
     let same : transport_feedback c.self.inside.ssrc c.args.media_ssrc c.args.fci.now ≡ transport_feedback c.args.self.now.ssrc c.args.media_ssrc c.args.fci.now =
     ap (λ (s : Source). transport_feedback s.ssrc c.args.media_ssrc c.args.fci.now) c.self.view_is in
-    all_three c.args.self.now (transport_feedback c.args.self.now.ssrc c.args.media_ssrc c.args.fci.now) c.new-out.result.items c.write_report.new.out.items c.write_description.new.out.items c.write_transport_packet.new.out.items
+    all_three c.args.self.now (transport_feedback c.args.self.now.ssrc c.args.media_ssrc c.args.fci.now) c.reserve.new.self.items c.write_report.new.out.items c.write_description.new.out.items c.write_transport_packet.new.out.items
     none c.in_ok-write_report.ensures c.in_ok-write_description.ensures
     (subst (λ (p : Packet). Appends c.write_description.new.out.items c.write_transport_packet.new.out.items p) same c.in_ok-write_transport_packet.ensures)
