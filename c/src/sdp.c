@@ -415,13 +415,14 @@ static cpay_sdp_error read_section(cpay_sdp_media *media, cpay_sdp_media *sessio
 
 /* Reads a whole description. Sections beyond `media_len` are read into `spare`, and counted. */
 static cpay_sdp_error read_all(text it, cpay_sdp_media *media, size_t media_len, size_t *count, size_t *line) {
-    static const cpay_sdp_media none;
-    cpay_sdp_media session = none, spare = none;
+    cpay_sdp_media session, spare; /* each is large, and `read_section` writes the whole of it */
     cpay_sdp_error error = CPAY_SDP_NO_ERROR;
     size_t lines = 0;
     *line = 1;
     *count = 0;
-    if (!begins(it, "m=")) {
+    if (begins(it, "m=")) {
+        memset(&session, 0, sizeof session);
+    } else {
         error = read_section(&session, NULL, section_of(&it, &lines), line);
         /* an `m=` line cannot be first here, so this part has no formats */
         if (!error) *line += lines;

@@ -82,11 +82,17 @@ static codec_use first_use(const char *text) {
     return use_of(&media.formats[0]);
 }
 
-/* A payload type that needs no signalling (RFC 3551, section 6). */
+/* A payload type that needs no signalling (RFC 3551, section 6). A new stream asks for all of them, so each is read once. */
 static codec_use static_use(uint8_t payload_type) {
-    char text[32];
-    snprintf(text, sizeof text, "m=- 0 RTP/AVP %u", payload_type);
-    return first_use(text);
+    static codec_use uses[PAYLOAD_TYPES];
+    static bool read[PAYLOAD_TYPES];
+    if (!read[payload_type]) {
+        char text[32];
+        snprintf(text, sizeof text, "m=- 0 RTP/AVP %u", payload_type);
+        uses[payload_type] = first_use(text);
+        read[payload_type] = true;
+    }
+    return uses[payload_type];
 }
 
 bool signalling_map(signalling *it, const char *text) {
