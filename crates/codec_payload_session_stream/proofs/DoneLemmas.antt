@@ -1,16 +1,15 @@
 -- A stream that is done after a unit has no event until a datagram arrives.
-use Rattle.std.proofs.Common.{◌≡◌, ◌∙◌, refl, ap, sym, subst, ℕ, zero, suc, ◌<◌, ◌^◌, ◌-◌, ◌==◌, ◌&&◌, ◌||◌, not, List, [], ◌∷◌, Bool, true, false, cond, Option, Some, None, Result, Ok, Err, length, arith}
-use Rattle.std.specs.Prelude.{⊤, nat_le, if◌then◌else◌}
+use Rattle.std.proofs.Common.{◌≡◌, ◌∙◌, refl, ap, sym, subst, ℕ, zero, suc, ◌-◌, ◌==◌, ◌&&◌, ◌||◌, not, List, [], ◌∷◌, Bool, true, false, Option, Some, None, Result, Ok, Err, length, arith}
+use Rattle.std.specs.Prelude.{nat_le, if◌then◌else◌}
 use Rattle.std.proofs.lemmas.Bool.{false≢true}
 use Rattle.std.proofs.lemmas.Bool.Decides.{nat_tests}
 use Rattle.std.specs.declared.alloc.AllocError.{AllocError}
 use Rattle.codec_payload_base.specs.declared.error.PacketError.{PacketError}
-use Rattle.codec_payload_base.specs.declared.wire.Ticks.{Ticks}
 use Rattle.codec_payload_metadata.specs.Release.{Release}
 use Rattle.codec_payload_buffer.specs.Blanks.{ready_since_among, ready_since_of, released_packets}
 use Rattle.codec_payload_buffer.specs.Frames.{frames}
 use Rattle.codec_payload_buffer.specs.Leaving.{left_of}
-use Rattle.codec_payload_buffer.specs.Steps.{Pops, State, due_among, due_of, none}
+use Rattle.codec_payload_buffer.specs.Steps.{Pops, due_among, due_of, none}
 use Rattle.codec_payload_buffer.specs.declared.buffer.frames.CompleteFrame.{CompleteFrame}
 use Rattle.codec_payload_buffer.specs.declared.buffer.leaving.Left.{Left}
 use Rattle.codec_payload_jitter.specs.NoMediaNumbers.{no_media_left, passed_no_media}
@@ -28,7 +27,7 @@ use Rattle.codec_payload_session_stream.specs.Quiet.{AsksNothing, IsQuietUntil, 
 use Rattle.codec_payload_session_stream.specs.Streams.{StreamState, earlier, request_deadline}
 use Rattle.codec_payload_session_stream.specs.declared.stream.Stage.{Stage}
 use Rattle.codec_payload_session_stream.specs.declared.stream.Stage.TheVariants as stages
-use Rattle.codec_payload_session_stream.proofs.CalmLemmas.{asks_none, emptied, idle_is}
+use Rattle.codec_payload_session_stream.proofs.CalmLemmas.{asks_none, idle_is}
 use Rattle.codec_payload_session_stream.proofs.RestLemmas.{as_settled, counted_twice, never_overdue}
 
 both : (a b : Bool) → (a && b) ≡ true → (a ≡ true) × (b ≡ true)
@@ -74,9 +73,9 @@ idle_parts r is =
     same m n is = grind (arith, nat_tests)
 
 settled_idle : (r : Receiving) → r.no_media_numbers ≡ [] → settled r ≡ r
-settled_idle r none =
-    ap (λ (ns : List ℕ). record r { buffer = passed_no_media r.buffer ns; no_media_numbers = no_media_left r.buffer ns }) none
-    ∙ ap (λ (ns : List ℕ). record r { no_media_numbers = ns }) (sym none)
+settled_idle r no_numbers =
+    ap (λ (ns : List ℕ). record r { buffer = passed_no_media r.buffer ns; no_media_numbers = no_media_left r.buffer ns }) no_numbers
+    ∙ ap (λ (ns : List ℕ). record r { no_media_numbers = ns }) (sym no_numbers)
 
 waits_idle : (r : Receiving) (now : ℕ) → Idle r → waiting_at r now ≡ Some r.buffer.hold_back
 waits_idle r now it =
@@ -171,3 +170,9 @@ done_quiet now (suc until) r p s pops told done =
         asks = asks_idle s.feedback at s.last s.receiver asks.1;
       };
     }
+
+-- until the moment that a stream keeps after a unit: 0 is none
+pub quiet_after : (now until most : ℕ) (done : Bool) (r : Receiver) (p : Result (Popped Release) AllocError) (s : StreamState) → PopsGated now r (answer_of (Some p)) s.receiver → s.told ≡ true
+    → done ≡ is_done s → until ≡ (if done then most else 0) → IsQuietUntil until None s.told s.stage s.last s.feedback s.receiver
+quiet_after now until most true r p s pops told is until_is = done_quiet now until r p s pops told (sym is)
+quiet_after now until most false r p s pops told is until_is = subst (λ (n : ℕ). IsQuietUntil n None s.told s.stage s.last s.feedback s.receiver) (sym until_is) tt

@@ -1,9 +1,8 @@
 -- Streams that are not asked: until a moment they have no event, and nothing changes.
-use Rattle.std.specs.Prelude.{◌≡◌, ◌⊎◌, ◌<◌, ℕ, zero, suc, min, ◌^◌, ◌==◌, ◌&&◌, not, if◌then◌else◌, Bool, true, false, List, [], ◌∷◌, Option, Some, None, Ok}
-use Rattle.codec_payload_jitter.specs.Missing.{missing_numbers}
+use Rattle.std.specs.Prelude.{◌≡◌, ◌<◌, ℕ, zero, suc, ◌^◌, ◌==◌, ◌&&◌, not, if◌then◌else◌, Bool, true, Option, Some, None, Ok}
 use Rattle.codec_payload_jitter.specs.Receiving.{PopsWith, Receiving, deadline_of, is_idle, settled, waiting_at}
 use Rattle.codec_payload_receiver.specs.Sessions.{Session as Receiver}
-use Rattle.codec_payload_session_requests.specs.Requests.{Asking, Asks, are_idle, is_heard, wants_keyframe, is_none, is_calm, MayRest}
+use Rattle.codec_payload_session_requests.specs.Requests.{Asking, Asks, are_idle, is_heard, MayRest}
 use Rattle.codec_payload_session_stream.specs.Changes.{is_playing}
 use Rattle.codec_payload_session_stream.specs.Streams.{StreamState, earlier, request_deadline, work_deadline}
 use Rattle.codec_payload_session_stream.specs.declared.stream.Stage.{Stage}

@@ -1,6 +1,6 @@
 //! One stream of a session: its receiver, and when it begins and ends.
 
-ghost use Rattle.std.specs.Prelude.{◌≡◌, IfOk, IfSome, true};
+ghost use Rattle.std.specs.Prelude.{◌≡◌, if◌then◌else◌, IfOk, IfSome, true};
 ghost use Rattle.std.specs.Option.{option_map};
 ghost use Rattle.codec_payload_session_stream.specs.Changes.{is_left_behind, is_playing, left_behind, plays};
 ghost use Rattle.codec_payload_session_formats.specs.Checks.{can_begin};
@@ -506,10 +506,9 @@ impl StreamState {
             Some(popped) => {
                 let keyframe = is_keyframe(&popped, self.receiver.inner());
                 answer_if(&mut self.feedback, keyframe);
-                if self.is_done() {
-                    self.quiet_until = u64::MAX;
-                    self.work = 0;
-                }
+                let until = until_if(self.is_done());
+                self.quiet_until = until;
+                self.work = 0;
                 step_with(popped)
             }
             None => {
@@ -735,6 +734,14 @@ pub fn is_nothing(step: &Step<()>) -> bool
     ensures { result ≡ is_nothing step.now }
 {
     matches!(step, Step::Nothing)
+}
+
+/// Returns until when a stream has no event after a unit: until a datagram arrives, if it is done. 0: it is not known.
+#[inline(always)]
+fn until_if(is_done: bool) -> u64
+    ensures { result ≡ (if is_done then 18446744073709551615 else 0) }
+{
+    if is_done { u64::MAX } else { 0 }
 }
 
 /// Returns the step of a stream with this answer of a pop.

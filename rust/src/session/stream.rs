@@ -415,10 +415,9 @@ impl StreamState {
             Some(popped) => {
                 let keyframe = is_keyframe(&popped, self.receiver.inner());
                 answer_if(&mut self.feedback, keyframe);
-                if self.is_done() {
-                    self.quiet_until = u64::MAX;
-                    self.work = 0;
-                }
+                let until = until_if(self.is_done());
+                self.quiet_until = until;
+                self.work = 0;
                 step_with(popped)
             }
             None => {
@@ -606,6 +605,12 @@ fn is_keyframe(popped: &Result<Popped<()>, AllocError>, receiver: &Receiver) -> 
 #[inline(always)]
 pub(crate) fn is_nothing(step: &Step<()>) -> bool {
     matches!(step, Step::Nothing)
+}
+
+/// Returns until when a stream has no event after a unit: until a datagram arrives, if it is done. 0: it is not known.
+#[inline(always)]
+fn until_if(is_done: bool) -> u64 {
+    if is_done { u64::MAX } else { 0 }
 }
 
 /// Returns the step of a stream with this answer of a pop.

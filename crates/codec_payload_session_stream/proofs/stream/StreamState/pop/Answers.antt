@@ -1,4 +1,4 @@
-use Rattle.std.proofs.Common.{◌≡◌, ◌∙◌, Bool, Option, None, Some, ap, arith, length, refl, subst, sym}
+use Rattle.std.proofs.Common.{◌≡◌, ◌∙◌, Bool, true, Option, None, Some, ap, arith, length, refl, subst, sym}
 use Rattle.std.specs.Prelude.{⊤}
 use Rattle.std.proofs.lemmas.Bool.Decides.{nat_tests}
 use Rattle.codec_payload_session_stream.specs.Quiet.{RestsUntil}
@@ -10,6 +10,7 @@ use Rattle.codec_payload_session_stream.specs.Units.{step_to}
 use Rattle.codec_payload_session_requests.specs.Named.{result_with}
 use Rattle.codec_payload_session_stream.specs.declared.stream.Step.{Step as StepWith}
 use Rattle.codec_payload_session_stream.specs.declared.stream.Step.TheVariants as steps
+use Rattle.codec_payload_session_stream.proofs.DoneLemmas.{quiet_after}
 use Rattle.codec_payload_session_stream.proofs.QuietLemmas.{nothing_is}
 use Rattle.codec_payload_session_stream.proofs.SkipLemmas.{rests_until, seen}
 use Rattle.codec_payload_session_stream.proofs.UnitLemmas.{keyframe_with, rests_to, step_pop}
@@ -26,6 +27,13 @@ invariant_of-self-then-held c =
     let rest : RestsUntil c.quiet_time-until.result c.args.now.0 t = subst (λ (x : StreamState). RestsUntil c.quiet_time-until.result c.args.now.0 x) (sym c.self-in-None.view_is) c.quiet_time-until.ensures in
     rests_until c.args.now.0 c.quiet_time-until.result c.or_none-kept.result c.find_work-work.result c.self.inside.receiver s t c.in-None.ensures.pops
     (rests_to s.stage c.args.now.0 s t steps.Nothing c.pop_unit.new.unit (subst (λ (x : StepWith ⊤). RestsBy s.stage c.args.now.0 s x t) nothing rests)) same work c.or_none-kept.ensures rest
+
+pub invariant_of-self-in-Some : goal.invariant_of-self-in-Some
+invariant_of-self-in-Some c =
+    let t : StreamState = record (seen c.self.inside) { receiver = c.pop_unit.new.self; feedback = c.answer_if.new.feedback } in
+    let told : t.told ≡ true = ap (λ (s : StreamState). s.told) c.self.view_is ∙ c.requires.told in
+    quiet_after c.args.now.0 c.until_if-until.result 18446744073709551615 c.is_done.result c.self.inside.receiver (result_with c.in-Some.popped c.pop_unit.new.unit) t c.in-Some.ensures.pops told c.is_done.ensures
+    c.until_if-until.ensures
 
 pub returns-in-Some : goal.returns-in-Some
 returns-in-Some c =
