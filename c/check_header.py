@@ -16,7 +16,7 @@ import os
 import re
 import sys
 
-CRATES = ["codec_payload_c", "codec_payload_handle"]
+CRATES = ["codec_payload_c", "codec_payload_c_packets", "codec_payload_c_receiving", "codec_payload_handle"]
 ROOT = os.path.dirname(os.path.dirname(os.path.realpath(__file__)))
 NUMBERS = {
     **{f"u{bits}": f"uint{bits}_t" for bits in (8, 16, 32, 64)},

@@ -150,7 +150,7 @@ class Project:
         for _, alias, path in crate.uses.get(module, []):
             other = self.crates.get(path[0])
             found = other and alias == name and other.find((), path[1:])
-            if found:
+            if found and other.named(*found):
                 yield 'type', other.name, *found
 
     def resolve(self, path, name, depth=0):

@@ -2,49 +2,15 @@
 
 ghost use Rattle.std.specs.Prelude.{◌≡◌, ◌≢◌, Bool};
 ghost use Rattle.codec_payload_handle.specs.Kinds.{Makes, OnAdaptiveWait, Refuses, is_adaptive_wait};
-ghost use Rattle.codec_payload_c.specs.AdaptiveWaits.{IsAdaptiveWaitOf, NotesArrival, NotesMissing, TellsLimit, after_all_missing, settings_given};
+ghost use Rattle.codec_payload_c_receiving.specs.AdaptiveWaits.{IsAdaptiveWaitOf, NotesArrival, NotesMissing, TellsLimit};
 
+use codec_payload_c_receiving::adaptive_wait::{AdaptiveWaitSettings, bounds_of, note_missing};
 use codec_payload_core::wire::Ticks;
-use codec_payload_feedback_wait::adaptive_wait::{AdaptiveWait, AdaptiveWaitSettings as Settings};
+use codec_payload_feedback_wait::adaptive_wait::AdaptiveWait;
 use codec_payload_handle::handle::Handle;
 use codec_payload_handle::object::Object;
 use codec_payload_handle::status;
 use std::alloc::Global;
-
-/// Within which bounds a limit moves, in ticks of your clock. Any values may be given.
-#[repr(C)]
-#[derive(Clone, Copy)]
-pub struct AdaptiveWaitSettings {
-    /// The lowest limit.
-    pub shortest: u64,
-    /// The highest limit. If it is below `shortest` or `first`, it wins.
-    pub longest: u64,
-    /// The lowest limit while fewer than 8 missing packets arrived or were lost.
-    pub first: u64,
-    /// A packet that is missing for this number of ticks is lost.
-    pub lost_after: u64,
-}
-
-/// Converts the settings of C.
-pub(crate) fn bounds_of(settings: &AdaptiveWaitSettings) -> Settings
-    ensures { result ≡ settings_given settings.now }
-{
-    Settings {
-        shortest: settings.shortest,
-        longest: settings.longest,
-        first: settings.first,
-        lost_after: settings.lost_after,
-    }
-}
-
-/// Records that the packets with these extended numbers are missing, one after another.
-fn note_missing(wait: &mut AdaptiveWait, now: u64, numbers: &[u64])
-    ensures { wait.new ≡ after_all_missing now numbers.now wait.old }
-{
-    for number in numbers {
-        wait.missing(Ticks(now), *number);
-    }
-}
 
 /// Creates the limit of a new stream in an empty handle.
 #[unsafe(no_mangle)]

@@ -1,73 +1,18 @@
 //! Depacketizers for callers that restore the order of packets themselves.
 
 ghost use Rattle.std.specs.Prelude.{◌≡◌, ◌≢◌, is_some};
-ghost use Rattle.codec_payload_c.specs.Assemblers.{Forgets, IsAssemblerOf, Lends, LentBy, StartsAnew, Takes, Unpacks};
+ghost use Rattle.codec_payload_c_packets.specs.Assemblers.{Forgets, IsAssemblerOf, Lends, Takes, Unpacks};
 ghost use Rattle.codec_payload_handle.specs.Kinds.{Makes, OnAssembler, Refuses, is_assembler};
 ghost use Rattle.codec_payload_handle.specs.Settings.{depacketizer_set};
 
-use codec_payload_core::codec::{CodecExtra, Depacketizer};
-use codec_payload_handle::bytes::fill;
-use codec_payload_handle::extra::{Extra, tell_extra};
+use codec_payload_c_packets::depacketizer::{LentUnit, depacketize, lend, start_anew, take};
+use codec_payload_core::codec::CodecExtra;
+use codec_payload_handle::extra::Extra;
 use codec_payload_handle::handle::Handle;
 use codec_payload_handle::object::{Assembler, Object};
 use codec_payload_handle::settings::{Spec, depacketizer_of};
 use codec_payload_handle::status;
 use std::alloc::Global;
-
-/// A unit in the memory of a depacketizer.
-#[repr(C)]
-#[derive(Drop)]
-pub struct LentUnit {
-    /// Where its bytes begin.
-    pub at: *const u8,
-    /// The number of its bytes.
-    pub bytes: usize,
-    /// The codec-specific data of its payloads.
-    pub extra: Extra,
-}
-
-/// Reads a payload, and appends its bytes to the unit so far.
-fn depacketize(assembler: &mut Assembler, payload: &[u8]) -> u32
-    ensures { Unpacks assembler.old payload.now result assembler.new }
-{
-    match assembler
-        .depacketizer
-        .depacketize(payload, &mut assembler.bytes, &mut assembler.extra)
-    {
-        Ok(()) => status::OK,
-        Err(fault) => u32::from(fault.number()),
-    }
-}
-
-/// Sets where the unit so far is.
-fn lend(assembler: &Assembler, unit: &mut LentUnit)
-    ensures { LentBy assembler.now unit.new }
-{
-    unit.at = assembler.bytes.as_ptr();
-    unit.bytes = assembler.bytes.len();
-    tell_extra(&mut unit.extra, &assembler.extra);
-}
-
-/// Starts the next unit in the same memory.
-fn start_anew(assembler: &mut Assembler)
-    ensures { StartsAnew assembler.old assembler.new }
-{
-    assembler.bytes.clear();
-    assembler.extra = CodecExtra::None;
-}
-
-/// Writes the unit so far to the output buffer, and starts the next one.
-fn take(assembler: &mut Assembler, size: &mut usize, extra: &mut Extra, bytes: &mut [u8]) -> u32
-    ensures { Takes assembler.old result size.new extra.new bytes.old bytes.new assembler.new }
-{
-    *size = assembler.bytes.len();
-    tell_extra(extra, &assembler.extra);
-    if !fill(bytes, &assembler.bytes) {
-        return status::TOO_SMALL;
-    }
-    start_anew(assembler);
-    status::OK
-}
 
 /// Creates a depacketizer with these settings in an empty handle.
 #[unsafe(no_mangle)]

@@ -1,6 +1,6 @@
 //! Releasing the contents of a handle.
 
-ghost use Rattle.std.specs.Prelude.{◌≡◌, Option, None};
+ghost use Rattle.std.specs.Prelude.{◌≡◌, None};
 
 use codec_payload_handle::handle::Handle;
 use std::alloc::Global;

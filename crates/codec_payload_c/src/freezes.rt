@@ -2,34 +2,15 @@
 
 ghost use Rattle.std.specs.Prelude.{◌≡◌, ◌≢◌, nat_le};
 ghost use Rattle.codec_payload_handle.specs.Kinds.{Makes, OnFreezes, Refuses, is_freezes};
-ghost use Rattle.codec_payload_c.specs.Freezes.{IsFreezesOf, NotesFrame, TellsFreezes, freezes_told};
+ghost use Rattle.codec_payload_c_packets.specs.Freezes.{IsFreezesOf, NotesFrame, TellsFreezes};
 
+use codec_payload_c_packets::freezes::{FreezeCountsInfo, freezes_told};
 use codec_payload_core::wire::{Frequency, Ticks};
-use codec_payload_feedback_freezes::freezes::{FreezeCounts, Freezes};
+use codec_payload_feedback_freezes::freezes::Freezes;
 use codec_payload_handle::handle::Handle;
 use codec_payload_handle::object::Object;
 use codec_payload_handle::status;
 use std::alloc::Global;
-
-/// What was counted. Each is modulo 2^64.
-#[repr(C)]
-#[derive(Drop)]
-pub struct FreezeCountsInfo {
-    /// How many frames were frozen.
-    pub freezes: u64,
-    /// How long these frames were shown, in ticks.
-    pub frozen: u64,
-}
-
-/// Returns the counts for C.
-fn freezes_told(counts: FreezeCounts) -> FreezeCountsInfo
-    ensures { result ≡ freezes_told counts }
-{
-    FreezeCountsInfo {
-        freezes: counts.freezes,
-        frozen: counts.frozen,
-    }
-}
 
 /// Creates a counter of freezes in an empty handle, for a clock with this number of ticks per second.
 #[unsafe(no_mangle)]

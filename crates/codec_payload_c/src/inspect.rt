@@ -1,12 +1,13 @@
 //! Inspection of one payload or frame. No call allocates.
 
-ghost use Rattle.std.specs.Prelude.{◌≡◌, MatchOption};
+ghost use Rattle.std.specs.Prelude.{◌≡◌};
 ghost use Rattle.codec_payload_core.specs.Av1Steps.{is_keyframe as is_av1_keyframe};
 ghost use Rattle.codec_payload_core.specs.Depacketizers.{depacketizer_state_for, head_of, tail_of};
 ghost use Rattle.codec_payload_core.specs.Extended.{extended};
 ghost use Rattle.codec_payload_core.specs.Vp8Keyframe.{is_keyframe as is_vp8_keyframe};
 ghost use Rattle.codec_payload_core.specs.Vp9Keyframe.{is_key_frame, is_key_payload};
-ghost use Rattle.codec_payload_c.specs.Inspect.{Inspect, given_if};
+ghost use Rattle.codec_payload_c.specs.Inspect.{Inspect};
+ghost use Rattle.codec_payload_handle.specs.Numbers.{given_if};
 ghost use Rattle.codec_payload_handle.specs.Settings.{codec_numbered};
 
 use codec_payload_core::av1::detect_av1_keyframe;

@@ -1,115 +1,26 @@
 //! Properties of frames, read from their bytes. No call allocates.
 
-ghost use Rattle.std.specs.Prelude.{◌≡◌, ◌≤◌, ◌&&◌, nat_le, drop, length};
+ghost use Rattle.std.specs.Prelude.{◌&&◌, nat_le, drop, length};
 ghost use Rattle.codec_payload_media.specs.AmrWbFrames.{frame_at};
 ghost use Rattle.codec_payload_media.specs.Av1Units.{obu_at};
 ghost use Rattle.codec_payload_media.specs.FrameInfo.{info_of};
-ghost use Rattle.codec_payload_media.specs.Av1Records.{av1c_bytes};
 ghost use Rattle.codec_payload_vpx.specs.Reading.{told};
 ghost use Rattle.codec_payload_vpx.specs.Vp9Superframes.{placed_in, unit_frames};
-ghost use Rattle.codec_payload_handle.specs.Bytes.{filled};
-ghost use Rattle.codec_payload_c.specs.Media.{AtOffset, TellsAmrWbFrame, TellsFrame, TellsObu, TellsVp9Frame, WritesHead, WritesRecord, facts_of, header_in, media_status};
+ghost use Rattle.codec_payload_c_packets.specs.Media.{AtOffset, TellsAmrWbFrame, TellsFrame, TellsObu, TellsVp9Frame, WritesHead, WritesRecord, header_in};
 ghost use Rattle.codec_payload_handle.specs.Settings.{codec_numbered};
 
+use codec_payload_c_packets::media::{
+    AmrWbFrameInfo, FrameFacts, ObuInfo, Vp9FrameInfo, facts_of, fill_record, header_in, status_of,
+};
 use codec_payload_handle::bytes::fill;
 use codec_payload_handle::settings::codec_of;
 use codec_payload_handle::status;
 use codec_payload_media::amr_wb::front_frame;
-use codec_payload_media::av1::av1c::{AV1C_FRONT_LEN, av1c_front};
-use codec_payload_media::av1::obu::{OBU_SEQUENCE_HEADER, front_obu};
-use codec_payload_media::av1::sequence_header::Av1SequenceHeader;
-use codec_payload_media::error::MediaError;
-use codec_payload_media::frame_info::{FrameInfo, frame_info};
+use codec_payload_media::av1::av1c::AV1C_FRONT_LEN;
+use codec_payload_media::av1::obu::front_obu;
+use codec_payload_media::frame_info::frame_info;
 use codec_payload_media::opus::OpusHead;
 use codec_payload_media::vp9::frame_at;
-
-/// Properties of a frame.
-#[repr(C)]
-#[derive(Clone, Copy)]
-pub struct FrameFacts {
-    /// The duration of audio, in ticks of the RTP clock.
-    pub duration: u64,
-    /// The width in pixels.
-    pub width: u32,
-    /// The height in pixels.
-    pub height: u32,
-    /// Whether `keyframe` is set.
-    pub has_keyframe: bool,
-    pub keyframe: bool,
-    /// Whether `width` and `height` are set.
-    pub has_size: bool,
-    /// Whether `duration` is set.
-    pub has_duration: bool,
-}
-
-/// An OBU of a temporal unit.
-#[repr(C)]
-#[derive(Clone, Copy)]
-pub struct ObuInfo {
-    /// The offset of its payload in the unit. The next OBU begins at the end of the payload.
-    pub start: usize,
-    /// The number of bytes of its payload.
-    pub bytes: usize,
-    pub obu_type: u8,
-    pub temporal_id: u8,
-    pub spatial_id: u8,
-    /// Whether its layers are set.
-    pub has_extension: bool,
-}
-
-/// A frame of an AMR-WB unit.
-#[repr(C)]
-#[derive(Clone, Copy)]
-pub struct AmrWbFrameInfo {
-    /// The offset of its speech in the unit. The next frame begins at the end of the speech.
-    pub start: usize,
-    /// The number of bytes of speech.
-    pub bytes: usize,
-    pub frame_type: u8,
-    /// Whether the frame is undamaged.
-    pub quality: bool,
-}
-
-/// A frame of a VP9 unit.
-#[repr(C)]
-#[derive(Clone, Copy)]
-pub struct Vp9FrameInfo {
-    /// The offset of the frame in the unit. The next frame begins at its end.
-    pub start: usize,
-    /// The number of bytes of the frame.
-    pub bytes: usize,
-}
-
-/// Returns the status for a malformed frame.
-fn status_of(error: MediaError) -> u32
-    ensures { result ≡ media_status error }
-{
-    match error {
-        MediaError::MissingBytes => status::FRAME_TOO_SHORT,
-        MediaError::WrongMarker => status::FRAME_MARKER,
-        MediaError::ReservedValue => status::FRAME_RESERVED,
-        MediaError::SizesDoNotFit => status::FRAME_SIZES,
-    }
-}
-
-/// Converts the properties for C.
-fn facts_of(info: &FrameInfo) -> FrameFacts
-    ensures { result ≡ facts_of info.now }
-{
-    let (width, height) = match info.size {
-        Some(size) => (size.width, size.height),
-        None => (0, 0),
-    };
-    FrameFacts {
-        duration: info.duration.unwrap_or(0),
-        width,
-        height,
-        has_keyframe: info.keyframe.is_some(),
-        keyframe: info.keyframe.unwrap_or(false),
-        has_size: info.size.is_some(),
-        has_duration: info.duration.is_some(),
-    }
-}
 
 /// Reads the properties of a frame of a codec.
 #[unsafe(no_mangle)]
@@ -198,37 +109,6 @@ pub extern "C" fn cpay_vp9_frame(unit: &[u8], index: usize, info: &mut Vp9FrameI
         Ok(None) => status::NONE,
         Err(error) => status_of(error),
     }
-}
-
-/// Returns the sequence header of an OBU that has no bytes after it, or the status that refuses the OBU.
-fn header_in(obu: &[u8]) -> Result<Av1SequenceHeader, u32>
-    ensures { result ≡ header_in obu.now }
-{
-    let (found, behind) = match front_obu(obu) {
-        Ok(found) => found,
-        Err(error) => return Err(status_of(error)),
-    };
-    if found.obu_type != OBU_SEQUENCE_HEADER || !behind.is_empty() {
-        return Err(status::INVALID);
-    }
-    match Av1SequenceHeader::parse(found.payload) {
-        Ok(header) => Ok(header),
-        Err(error) => Err(status_of(error)),
-    }
-}
-
-/// Writes the record of a header and its OBU to the front of the output buffer, if the buffer is large enough.
-fn fill_record(header: &Av1SequenceHeader, obu: &[u8], bytes: &mut [u8]) -> bool
-    ensures enough { result ≡ nat_le (length (av1c_bytes header.now obu.now)) (length bytes.old) }
-    ensures written { bytes.new ≡ filled (av1c_bytes header.now obu.now) bytes.old }
-{
-    if bytes.len() < AV1C_FRONT_LEN + obu.len() {
-        return false;
-    }
-    let (front, rest) = bytes.split_at_mut(AV1C_FRONT_LEN);
-    front.copy_from_slice(&av1c_front(header));
-    rest[..obu.len()].copy_from_slice(obu);
-    true
 }
 
 /// Writes the `av1C` record of a stream, from its sequence header OBU.

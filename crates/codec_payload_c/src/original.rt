@@ -1,25 +1,12 @@
 //! The packet that a retransmission repeats.
 
 ghost use Rattle.std.specs.Prelude.{◌≡◌, ◌≢◌};
-ghost use Rattle.codec_payload_c.specs.Originals.{WritesOriginalOf, original_status};
+ghost use Rattle.codec_payload_c_packets.specs.Originals.{WritesOriginalOf};
 
-use crate::congestion::put_packet;
-use crate::rtp::status_of;
-use codec_payload_handle::status;
-use codec_payload_sending_history::original::{OriginalError, OriginalStream};
+use codec_payload_c_packets::congestion::put_packet;
+use codec_payload_c_packets::original::original_status;
+use codec_payload_sending_history::original::OriginalStream;
 use std::alloc::Global;
-
-/// Returns the status for a datagram that repeats no packet.
-fn original_status(error: OriginalError) -> u32
-    ensures { result ≡ original_status error }
-{
-    match error {
-        OriginalError::PayloadType => status::INVALID,
-        OriginalError::Rtp(fault) => status_of(fault),
-        OriginalError::TooShort => status::RTX_TOO_SHORT,
-        OriginalError::OutOfMemory => status::OUT_OF_MEMORY,
-    }
-}
 
 /// Writes the packet of this stream that a retransmission repeats.
 #[unsafe(no_mangle)]

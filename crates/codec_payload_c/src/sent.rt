@@ -3,29 +3,15 @@
 ghost use Rattle.std.specs.Prelude.{◌≡◌, ◌≢◌};
 ghost use Rattle.codec_payload_feedback_transport.specs.Sent.{sent_at};
 ghost use Rattle.codec_payload_handle.specs.Kinds.{Makes, OnSentPackets, Refuses, is_sent_packets};
-ghost use Rattle.codec_payload_c.specs.StreamReceivers.{TellsNumber};
-ghost use Rattle.codec_payload_c.specs.SentTransports.{AssignsNumber, IsSentPacketsOf, is_limit};
+ghost use Rattle.codec_payload_handle.specs.Numbers.{TellsNumber};
+ghost use Rattle.codec_payload_c_packets.specs.SentTransports.{AssignsNumber, IsSentPacketsOf, is_limit};
 
-use codec_payload_base::wire::Ticks;
+use codec_payload_c_packets::sent::assign;
 use codec_payload_feedback_transport::sent::SentPackets;
 use codec_payload_handle::handle::Handle;
 use codec_payload_handle::object::Object;
 use codec_payload_handle::status;
 use std::alloc::Global;
-
-/// Counts the next packet, and writes its number.
-fn assign(sent: &mut SentPackets, now: u64, number: &mut u16) -> u32
-    ensures assigns { AssignsNumber now sent.old result number.old number.new sent.new }
-    ensures unchanged { result ≢ 0 → number.new ≡ number.old }
-{
-    match sent.assign(Ticks(now)) {
-        Ok(assigned) => {
-            *number = assigned;
-            status::OK
-        }
-        Err(_) => status::OUT_OF_MEMORY,
-    }
-}
 
 /// Creates a transport on which nothing was sent in an empty handle. The last `limit` packets will be remembered.
 #[unsafe(no_mangle)]

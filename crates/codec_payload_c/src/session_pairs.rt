@@ -1,31 +1,13 @@
 //! Pairs of SSRCs that become known while a session runs.
 
-ghost use Rattle.std.specs.Prelude.{◌≡◌};
-ghost use Rattle.codec_payload_c.specs.SessionPairs.{AddsPair, RemovesPair};
+ghost use Rattle.codec_payload_c_receiving.specs.SessionPairs.{AddsPair, RemovesPair};
 ghost use Rattle.codec_payload_handle.specs.Kinds.{OnPortSession, Refuses, is_port_session};
 
+use codec_payload_c_receiving::session_pairs::{add_pair, remove_pair};
 use codec_payload_handle::handle::Handle;
 use codec_payload_handle::object::{Object, PortSession};
 use codec_payload_handle::status;
 use std::alloc::Global;
-
-/// Adds a pair of SSRCs.
-fn add_pair(port: &mut PortSession, ssrc: u32, retransmission: u32) -> u32
-    ensures { AddsPair ssrc retransmission port.old result port.new }
-{
-    match port.session.add_pair(ssrc, retransmission) {
-        Ok(()) => status::OK,
-        Err(_) => status::OUT_OF_MEMORY,
-    }
-}
-
-/// Removes the pairs of the SSRC of a stream.
-fn remove_pair(port: &mut PortSession, ssrc: u32) -> u32
-    ensures { RemovesPair ssrc port.old result port.new }
-{
-    port.session.remove_pair(ssrc);
-    status::OK
-}
 
 /// Names the SSRC of the retransmissions of an SSRC, from now on.
 #[unsafe(no_mangle)]

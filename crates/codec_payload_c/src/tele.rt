@@ -1,9 +1,10 @@
 //! Reports on telephone events (RFC 4733, section 2.3).
 
-ghost use Rattle.std.specs.Prelude.{◌≡◌, ◌≢◌, slice_get};
-ghost use Rattle.codec_payload_c.specs.Tele.{ReadsReport, WritesReport};
+ghost use Rattle.std.specs.Prelude.{◌≡◌, ◌≢◌};
+ghost use Rattle.codec_payload_c_packets.specs.Tele.{ReadsReport, WritesReport};
 
-use codec_payload_core::tele::{TelephoneEvent, TelephoneEvents};
+use codec_payload_c_packets::tele::report_at;
+use codec_payload_core::tele::TelephoneEvent;
 use codec_payload_core::wire::Frequency;
 use codec_payload_handle::bytes::fill;
 use codec_payload_handle::extra::{TeleEvent, event_of};
@@ -11,13 +12,6 @@ use codec_payload_handle::status;
 
 /// The number of the error for a payload that is not one or more whole reports.
 const NO_REPORTS: u32 = 15;
-
-/// Returns the report with this index, if there is one.
-fn report_at(reports: &mut TelephoneEvents, index: usize) -> Option<TelephoneEvent>
-    ensures { result ≡ slice_get reports.old index }
-{
-    reports.nth(index)
-}
 
 /// Reads the report with this index, from 0, in a payload of reports.
 #[unsafe(no_mangle)]

@@ -1,9 +1,14 @@
 pub mod Bytes
 pub mod Extras
 pub mod HeaderValues
+pub mod Ids
 pub mod Kinds
+pub mod Numbers
 pub mod Owned
 pub mod Popping
+pub mod Refusals
+pub mod ReportBlocks
+pub mod RtpFaults
 pub mod Settings
 pub mod Slots
 pub mod Units

@@ -1,6 +1,6 @@
 use Rattle.std.proofs.Common.{◌≡◌, ◌∙◌, ◌≤◌, ◌&&◌, ℕ, Bool, true, false, length, nat_le, refl, subst, sym, arith}
 use Rattle.std.proofs.lemmas.Bool.Decides.{nat_tests}
-use Rattle.codec_payload_c.specs.Beginnings.{SetsFeedbackIf, name_fits}
+use Rattle.codec_payload_c_receiving.specs.Beginnings.{SetsFeedbackIf, name_fits}
 use Rattle.codec_payload_c.proofs.beginnings.cpay_session_settings_feedback.Goals as goal
 
 short : (n : ℕ) → (nat_le 1 n && nat_le n 255) ≡ true → n ≤ 255

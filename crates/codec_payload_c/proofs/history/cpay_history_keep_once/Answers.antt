@@ -3,7 +3,7 @@ use Rattle.codec_payload_handle.specs.Kinds.{OnPacketHistory, StaysPacketHistory
 use Rattle.codec_payload_handle.specs.declared.object.Object.{Object}
 use Rattle.codec_payload_handle.specs.declared.object.Object.TheVariants as objects
 use Rattle.codec_payload_handle.specs.declared.object.PacketHistory.{PacketHistory}
-use Rattle.codec_payload_c.specs.Histories.{KeepsDatagramOnce}
+use Rattle.codec_payload_c_packets.specs.Histories.{KeepsDatagramOnce}
 use Rattle.codec_payload_c.proofs.history.cpay_history_keep_once.Goals as goal
 use Rattle.codec_payload_c.proofs.history.cpay_history_keep_once.Goals.{in-PacketHistory, in_default-deref_mut}
 

@@ -1,5 +1,5 @@
 use Rattle.std.proofs.Common.{true, false, refl, sym, ◌∙◌}
-use Rattle.codec_payload_c.proofs.RecordLemmas.{record_written}
+use Rattle.codec_payload_c_packets.proofs.RecordLemmas.{record_written}
 use Rattle.codec_payload_c.proofs.media.cpay_av1c.Goals as goal
 
 pub returns-then-fill_record : goal.returns-then-fill_record

@@ -1,8 +1,8 @@
 use Rattle.std.proofs.Common.{◌≡◌, ◌∙◌, ◌+◌, ◌*◌, ◌-◌, ◌≤◌, ◌<◌, ℕ, Some, List, rules, sym, ap, subst, arith, length, drop, slice_get}
 use Rattle.codec_payload_core.specs.RedBlocks.{blocks_of}
 use Rattle.codec_payload_core.specs.declared.red.RedBlock.{RedBlock}
-use Rattle.codec_payload_c.specs.RedPlaces.{block_place, bytes_in}
-use Rattle.codec_payload_c.proofs.RedPlaceLemmas.{placed, too_few, within}
+use Rattle.codec_payload_c_packets.specs.RedPlaces.{block_place, bytes_in}
+use Rattle.codec_payload_c_packets.proofs.RedPlaceLemmas.{placed, too_few, within}
 use Rattle.codec_payload_c.proofs.red_places.cpay_red_blocks.Goals as goal
 
 pub returns-then-blocks-len-clause-places : goal.returns-then-blocks-len-clause-places

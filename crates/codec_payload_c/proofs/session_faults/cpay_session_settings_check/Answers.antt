@@ -1,4 +1,4 @@
-use Rattle.codec_payload_c.proofs.SettingsFaultLemmas.{accepts, refuses}
+use Rattle.codec_payload_c_receiving.proofs.SettingsFaultLemmas.{accepts, refuses}
 use Rattle.codec_payload_c.proofs.session_faults.cpay_session_settings_check.Goals as goal
 
 pub returns-in-Ok-clause-accepted : goal.returns-in-Ok-clause-accepted

@@ -1,0 +1,12 @@
+pub mod ArrivalPlaces
+pub mod AskedNumbers
+pub mod BlockLemmas
+pub mod FrameLemmas
+pub mod PatchFront
+pub mod RecordLemmas
+pub mod RedPlaceLemmas
+pub mod ReportLemmas
+pub mod ResendLemmas
+pub mod RtpPlaces
+pub mod SenderRange
+pub mod WholeLemmas

@@ -1,0 +1,12 @@
+pub mod AdaptiveWaits
+pub mod Beginnings
+pub mod SessionChanges
+pub mod SessionFaults
+pub mod SessionFormats
+pub mod SessionKeyframes
+pub mod SessionNames
+pub mod SessionPairs
+pub mod SessionReports
+pub mod SessionStreams
+pub mod Sessions
+pub mod StreamReceivers
