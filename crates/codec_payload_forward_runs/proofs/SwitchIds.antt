@@ -1,8 +1,7 @@
 -- Packets of VP8 with picture ids, of two sources: moved by the offsets of each source, they are the stream of the units of their frames.
-use Rattle.std.proofs.Common.{◌≡◌, ◌∙◌, refl, sym, ap, subst, ℕ, ◌+◌, ◌%◌, ◌^◌, ◌<◌, List, [], ◌∷◌, ◌++◌, append-nil, append_assoc, length-append, Bool, true, false, Option, Some, None, Ok, length, map, arith}
+use Rattle.std.proofs.Common.{◌≡◌, ◌∙◌, refl, sym, ap, subst, ℕ, ◌+◌, ◌^◌, ◌<◌, List, [], ◌∷◌, ◌++◌, append_assoc, length-append, false, Option, Some, None, Ok, length, map, arith}
 use Rattle.std.specs.Prelude.{not, slice_get}
 use Rattle.std.proofs.lemmas.List.{append_cancel_left, length-map, map-append}
-use Rattle.codec_payload_base.specs.declared.error.PacketError.{PacketError}
 use Rattle.codec_payload_base.specs.declared.wire.extension.ExtensionValues.{ExtensionValues}
 use Rattle.codec_payload_buffer.specs.Steps.{State}
 use Rattle.codec_payload_buffer_runs.proofs.units.BuiltInRuns.{IsOfCodec, Runs as PlainRuns, plainly, runs_exactly}
@@ -27,7 +26,7 @@ use Rattle.codec_payload_sending_forward.specs.declared.ids.IdOffsets.{IdOffsets
 use Rattle.codec_payload_datagram_runs.proofs.Courses.{proceeds}
 use Rattle.codec_payload_datagram_runs.proofs.SendingLemmas.{IsAt, SendsRun, running, sends_run}
 use Rattle.codec_payload_datagram_runs.specs.Releases.{AreDatagrams, sending_steps, times_sent}
-use Rattle.codec_payload_datagram_runs.specs.WireRuns.{Runs, SendsOrRefuses, Wire, sent_sample}
+use Rattle.codec_payload_datagram_runs.specs.WireRuns.{Runs, Wire, sent_sample}
 use Rattle.codec_payload_datagram_runs.specs.declared.run.DatagramStep.{DatagramStep}
 use Rattle.codec_payload_datagram_runs.specs.declared.run.DatagramStep.TheVariants as seen
 use Rattle.codec_payload_datagram_runs.specs.declared.run.SentSample.{SentSample}

@@ -15,7 +15,7 @@ use Rattle.codec_payload_datagram_runs.specs.declared.run.DatagramStep.{Datagram
 use Rattle.codec_payload_datagram_runs.specs.declared.run.DatagramStep.TheVariants as seen
 use Rattle.codec_payload_datagram_runs.specs.declared.run.SentSample.{SentSample}
 use Rattle.codec_payload_forward_runs.proofs.SenderLemmas.{IsView, View, map_append, seen_sender, sends_it_too}
-use Rattle.codec_payload_forward_runs.proofs.SwitchSent.{HasSent, SendsAll, Stays, all_count, one_count, sent_on, total}
+use Rattle.codec_payload_forward_runs.proofs.SwitchSent.{HasSent, SendsAll, Stays, all_count, one_count, sent_on}
 use Rattle.codec_payload_forward_runs.specs.ForwardReleases.{viewer_datagram, viewer_sample, viewer_samples}
 use Rattle.codec_payload_forward_runs.specs.SwitchUnits.{Sent, entries_in, samples_in, send_each}
 

@@ -1,5 +1,5 @@
 -- What the sources of a run with a switch send, one sample after another.
-use Rattle.std.proofs.Common.{◌≡◌, ◌∙◌, refl, sym, ap, subst, ℕ, zero, suc, ◌+◌, ◌-◌, ◌%◌, ◌^◌, ◌<◌, ◌≤◌, List, [], ◌∷◌, ◌++◌, inl, inr, append-nil, append_assoc, length-append, Bool, true, false, ltb, Option, Some, None, MatchOption, length, arith}
+use Rattle.std.proofs.Common.{◌≡◌, ◌∙◌, refl, sym, ap, subst, ℕ, ◌+◌, ◌-◌, ◌%◌, ◌^◌, ◌<◌, ◌≤◌, List, [], ◌∷◌, ◌++◌, inl, inr, append-nil, append_assoc, length-append, Bool, true, false, ltb, Option, Some, None, MatchOption, length, arith}
 use Rattle.std.specs.Prelude.{◌⊎◌, slice_get}
 use Rattle.std.proofs.lemmas.Bool.{ltb-false, ltb-true}
 use Rattle.codec_payload_base.specs.declared.error.PacketError.{PacketError}
@@ -10,14 +10,14 @@ use Rattle.codec_payload_rtp.specs.RtpPackets.{Packet}
 use Rattle.codec_payload_sending.specs.Senders.{Sending}
 use Rattle.codec_payload_sending.specs.declared.sender.Outgoing.{Outgoing}
 use Rattle.codec_payload_datagram_runs.specs.Releases.{sends_after}
-use Rattle.codec_payload_datagram_runs.specs.WireRuns.{Delivers, DoesStep, Receipt, SendsIt, SendsOrRefuses, Wire, sent_sample}
+use Rattle.codec_payload_datagram_runs.specs.WireRuns.{Delivers, Receipt, SendsIt, SendsOrRefuses, Wire, sent_sample}
 use Rattle.codec_payload_datagram_runs.specs.declared.run.DatagramStep.TheVariants as seen
 use Rattle.codec_payload_datagram_runs.specs.declared.run.SentSample.{SentSample}
 use Rattle.codec_payload_forward_runs.proofs.LeaveSenders.{own_stays}
 use Rattle.codec_payload_forward_runs.proofs.ViewerRuns.{IsMore}
 use Rattle.codec_payload_forward_runs.specs.ForwardRuns.{Comes, DoesForwardStep, DoesPlain, Hops, packet_in}
 use Rattle.codec_payload_forward_runs.specs.LeaveReleases.{sends_no_ids}
-use Rattle.codec_payload_forward_runs.specs.SwitchRuns.{DoesSwitchStep, SwitchRuns, Switched, swapped}
+use Rattle.codec_payload_forward_runs.specs.SwitchRuns.{SwitchRuns, Switched, swapped}
 use Rattle.codec_payload_forward_runs.specs.SwitchUnits.{NoneAcross, Sent, all_below, none_below, sent_in, with_first}
 use Rattle.codec_payload_forward_runs.specs.declared.run.ForwardStep.{ForwardStep}
 use Rattle.codec_payload_forward_runs.specs.declared.run.ForwardStep.TheVariants as plain

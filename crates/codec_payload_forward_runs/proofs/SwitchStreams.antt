@@ -38,7 +38,7 @@ least_above : (reached first : ℕ) (ks : List ℕ) → reached ≤ next_above r
 least_above reached first [] = omega arith
 least_above reached first (k ∷ ks) = omega (arith, least_above (max reached (first + k + 1)) first ks)
 
-pub none_some : {X : Type 0} (x : X) (xs : List X) → x ∷ xs ≡ [] → ⊥
+none_some : {X : Type 0} (x : X) (xs : List X) → x ∷ xs ≡ [] → ⊥
 none_some x xs e = cc
 
 not_first : sources.Second ≡ sources.First → ⊥

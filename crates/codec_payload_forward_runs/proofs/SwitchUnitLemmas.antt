@@ -1,5 +1,5 @@
 -- The units that a viewer's receiver releases in a run with one switch, from the theorem of runs over one hop.
-use Rattle.std.proofs.Common.{◌≡◌, ◌∙◌, refl, sym, ap, subst, ℕ, zero, suc, ◌+◌, ◌-◌, ◌%◌, ◌^◌, ◌<◌, ◌≤◌, List, [], ◌∷◌, ◌++◌, inl, inr, append-nil, length-append, true, false, Option, Some, None, Ok, drop, length, map, arith}
+use Rattle.std.proofs.Common.{◌≡◌, ◌∙◌, refl, sym, ap, subst, ℕ, zero, suc, ◌+◌, ◌-◌, ◌%◌, ◌^◌, ◌<◌, ◌≤◌, List, [], ◌∷◌, ◌++◌, inl, inr, append-nil, length-append, true, false, Option, Some, None, drop, length, map, arith}
 use Rattle.std.specs.Prelude.{◌⊎◌, take}
 use Rattle.std.proofs.Math.Seq.{drop-length, take-append_seam}
 use Rattle.std.proofs.lemmas.List.{length-drop, length-map}
@@ -20,7 +20,6 @@ use Rattle.codec_payload_datagrams.specs.declared.kinds.Retransmission.{Retransm
 use Rattle.codec_payload_payloader.specs.Sending.{Sample}
 use Rattle.codec_payload_receiver.specs.Defaults.{no_ids}
 use Rattle.codec_payload_receiver.specs.Sessions.{Session}
-use Rattle.codec_payload_receiver.specs.declared.receiver.Settings.{Settings}
 use Rattle.codec_payload_sending.specs.Senders.{Sending}
 use Rattle.codec_payload_sending.specs.declared.sender.Outgoing.{Outgoing}
 use Rattle.codec_payload_sending_forward.specs.Forwarding.{Forward}
@@ -39,7 +38,7 @@ use Rattle.codec_payload_forward_runs.proofs.LeaveStreams.{datagrams_append, pac
 use Rattle.codec_payload_forward_runs.proofs.MovedStreams.{moved_packets}
 use Rattle.codec_payload_forward_runs.proofs.SenderLemmas.{IsView, View, map_append, moved_view, same_view, seen_sender, unchanged, unknown, unknown_view, without_ids}
 use Rattle.codec_payload_forward_runs.proofs.SourceLemmas.{AllOf}
-use Rattle.codec_payload_forward_runs.proofs.SwitchEvents.{Viewer, viewer_of}
+use Rattle.codec_payload_forward_runs.proofs.SwitchEvents.{viewer_of}
 use Rattle.codec_payload_forward_runs.proofs.SwitchIds.{HasId, Part, id_stays, joined, part, sent_other, units_with_ids}
 use Rattle.codec_payload_forward_runs.proofs.SwitchLemmas.{all_became, happened}
 use Rattle.codec_payload_forward_runs.proofs.SwitchSamples.{AreSeen, SentReadable, above_readable, below_readable, moved_none, readable_append, received_sent, seen_both, seen_moved, seen_readable, sending_append, sent_readable, times_joined, units_append, units_sent}
@@ -50,7 +49,7 @@ use Rattle.codec_payload_forward_runs.proofs.SwitchViews.{Views, cut_within, joi
 use Rattle.codec_payload_forward_runs.proofs.ViewerReleases.{reads_moved, times_moved}
 use Rattle.codec_payload_forward_runs.specs.ForwardReleases.{keeps_packetizer, keeps_payloads, moved_packetizer, viewer_datagram, viewer_packetizer, viewer_samples, viewer_sender, viewer_stream}
 use Rattle.codec_payload_forward_runs.specs.LeaveReleases.{AreAt}
-use Rattle.codec_payload_forward_runs.specs.SwitchReleases.{Event, Writing, events_of}
+use Rattle.codec_payload_forward_runs.specs.SwitchReleases.{Writing, events_of}
 use Rattle.codec_payload_forward_runs.specs.SwitchRuns.{SwitchRuns, Switched, begins_switching}
 use Rattle.codec_payload_forward_runs.specs.SwitchUnits.{IsSwitchedWithinWindows, OneStreamOf, ReleaseSwitching, ReleasesSwitched, SendNoIds, SendPictureIds, Sent, cut_in, entries_in, first_sent, places_of, samples_in, second_sent, send_each, sent_after_switch, sent_before_switch, sent_in, start_in, stream_datagrams, stream_samples, stream_sends, stream_steps, stream_wire, units_of_sent, viewed_steps_of, writings_of}
 use Rattle.codec_payload_forward_runs.specs.declared.switch_run.Source.TheVariants as sources

@@ -1,5 +1,5 @@
 -- What the viewer's receiver gets in a run with one switch: the datagrams of the viewer's stream, each at its place.
-use Rattle.std.proofs.Common.{◌≡◌, ◌∙◌, refl, sym, ap, subst, ℕ, zero, suc, ◌+◌, ◌-◌, ◌%◌, ◌<◌, ◌≤◌, max, List, [], ◌∷◌, ◌++◌, inl, inr, append-nil, append_assoc, length-append, Bool, true, false, cond, ltb, Option, Some, None, MatchOption, Result, Ok, drop, length, map, arith}
+use Rattle.std.proofs.Common.{◌≡◌, ◌∙◌, refl, sym, ap, subst, ℕ, zero, suc, ◌+◌, ◌-◌, ◌%◌, ◌<◌, ◌≤◌, max, List, [], ◌∷◌, ◌++◌, inl, inr, append-nil, append_assoc, length-append, Bool, true, false, cond, ltb, Option, Some, None, Result, Ok, drop, length, map, arith}
 use Rattle.std.specs.Prelude.{◌⊎◌, slice_get, take}
 use Rattle.std.specs.Option.{option_map}
 use Rattle.std.proofs.lemmas.Bool.{lt-ltb}
@@ -25,9 +25,8 @@ use Rattle.codec_payload_datagram_runs.specs.WireRuns.{Receipt, Runs, Wire}
 use Rattle.codec_payload_datagram_runs.specs.declared.run.DatagramStep.{DatagramStep}
 use Rattle.codec_payload_datagram_runs.specs.declared.run.DatagramStep.TheVariants as seen
 use Rattle.codec_payload_datagram_runs.specs.declared.run.SentSample.{SentSample}
-use Rattle.codec_payload_buffer_runs.specs.declared.run.Step.{Step}
 use Rattle.codec_payload_forward_runs.proofs.SwitchEvents.{DeliversOne, Happens, Viewer}
-use Rattle.codec_payload_forward_runs.proofs.SwitchStreams.{none_some, seq_is}
+use Rattle.codec_payload_forward_runs.proofs.SwitchStreams.{seq_is}
 use Rattle.codec_payload_forward_runs.specs.ForwardReleases.{forwarded_by, viewer_bytes, viewer_datagram, viewer_packet}
 use Rattle.codec_payload_forward_runs.specs.ForwardRuns.{packet_read, written_by}
 use Rattle.codec_payload_forward_runs.specs.LeaveReleases.{AreAt}

@@ -32,8 +32,8 @@ pub fn switching_premises_can_be_met()
     ensures { SwitchingCanBeMet }
 {}
 
-/// The premises on the units of a run with one switch can be met: of a frame of one source of Opus and two frames of another one, the last
-/// two come to the viewer in another order. All come before the stream ends.
+/// The premises on the units of a run with one switch can be met: of a frame of one source and two frames of another one, the last two
+/// come to the viewer in another order. All come before the stream ends. The frames are of Opus, and of VP8 with picture ids.
 pub fn switched_units_premises_can_be_met()
     ensures { SwitchedUnitsCanBeMet }
 {}
