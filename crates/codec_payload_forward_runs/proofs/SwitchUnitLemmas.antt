@@ -365,7 +365,7 @@ module _ (samples : List Sample) (all_steps : List SwitchStep) (first second : S
           → ReleasesSwitched samples all_steps (begins_switching first second forwarder receiver) t
       released_by takes sends_from units =
           let promises : KeepsPromises all steps (begins sender receiver) whole_run = keeps_all None all steps sender receiver whole_run takes sends_from tt is_within in
-          record { stream = stream; written = written; promises = promises; canonical = promises.released.canonical ∙ units }
+          record { stream = stream; written = written; received = received; promises = promises; canonical = promises.released.canonical ∙ units }
 
   -- The packetizers send no ids
 

@@ -17,7 +17,7 @@ use Rattle.codec_payload_receiver.specs.declared.receiver.Settings.{Settings}
 use Rattle.codec_payload_sending.specs.Senders.{Sending}
 use Rattle.codec_payload_sending_forward.specs.Forwarding.{Forward}
 use Rattle.codec_payload_datagram_runs.specs.HistoryReleases.{delivery_of}
-use Rattle.codec_payload_datagram_runs.specs.Releases.{AreOfOneStream, ComeTimely, ComeWithin, delivered, sends_after, times_sent}
+use Rattle.codec_payload_datagram_runs.specs.Releases.{AreOfOneStream, ComeTimely, ComeWithin, delivered, received_steps, sends_after, times_sent}
 use Rattle.codec_payload_datagram_runs.specs.WireLogs.{KeepsPromises}
 use Rattle.codec_payload_datagram_runs.specs.WireRuns.{Wire, begins}
 use Rattle.codec_payload_datagram_runs.specs.declared.run.DatagramStep.{DatagramStep}
@@ -198,7 +198,7 @@ pub record IsSwitchedWithinWindows (samples : List Sample) (all_steps : List Swi
   pub between : IsBetweenFrames samples all_steps t
   pub alike : SendAlike s.hops.forwarder.settings.codec s.hops.wire.sending s.second
   pub widths : HaveWidths s.hops.wire.sending s.hops.forwarder
-  -- the viewer's stream has less than 2^63 datagrams
+  -- the viewer's stream has fewer than 2^63 datagrams
   pub few : cut_in samples all_steps t + (length t.datagrams - start_in samples all_steps t) < 2 ^ 63
   pub settings : Settings
   pub depacketizer : DepacketizerState
@@ -214,12 +214,14 @@ pub record IsSwitchedWithinWindows (samples : List Sample) (all_steps : List Swi
 -- Guarantees
 
 -- What a viewer's receiver releases: what it releases in a run over one hop from the sender whose datagrams the viewer gets. Each written
--- datagram is the one at its place in the viewer's stream. The units are those of the samples of the first source up to the switch, and
--- then of the samples of the second from then on
+-- datagram is the one at its place in the viewer's stream, and the receiver's steps are those of the run. The units are those of the
+-- samples of the first source up to the switch, and then of the samples of the second from then on
 pub record ReleasesSwitched (samples : List Sample) (all_steps : List SwitchStep) (s t : Switched) : Type 0 where
   pub stream : OneStreamOf samples all_steps s t
   pub written : AreAt (stream_datagrams (cut_in samples all_steps t) (start_in samples all_steps t) stream.before stream.after t.hops.wire.datagrams t.datagrams) t.hops.written
       (places_of (cut_in samples all_steps t) (start_in samples all_steps t) (writings_of samples all_steps t))
+  pub received : received_steps (stream_samples samples all_steps s.hops.wire.sending.stream.clock_rate stream.before stream.after t) 0 (stream_steps samples all_steps t) (stream_sends samples all_steps t)
+      ≡ viewed_steps_of samples all_steps t
   pub promises : KeepsPromises (stream_samples samples all_steps s.hops.wire.sending.stream.clock_rate stream.before stream.after t) (stream_steps samples all_steps t) (stream_begins stream.before s)
       (stream_wire samples all_steps stream.before stream.after t)
   pub canonical : map (λ (u : SentUnit). u.parts) promises.released.units
