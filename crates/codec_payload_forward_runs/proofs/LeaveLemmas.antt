@@ -62,7 +62,7 @@ plain_vp8 packetizer None is none = (ap (keeps_payloads codecs.Vp8) is, refl)
 plain_vp8 packetizer (Some id) is none = absurd (let sent : sends_no_ids packetizer ≡ false = ap sends_no_ids is in cc)
 
 -- a packetizer without ids sends payloads that the forwarder keeps
-are_kept : (codec : Codec) (packetizer : PacketizerState) → keeps_packetizer codec packetizer ≡ true → sends_no_ids packetizer ≡ true → (keeps_payloads codec packetizer ≡ true) × (is_moved codec ≡ false)
+pub are_kept : (codec : Codec) (packetizer : PacketizerState) → keeps_packetizer codec packetizer ≡ true → sends_no_ids packetizer ≡ true → (keeps_payloads codec packetizer ≡ true) × (is_moved codec ≡ false)
 are_kept codecs.Vp8 packetizer of none = plain_vp8 packetizer (is_vp8 packetizer of).0 (is_vp8 packetizer of).1 none
 are_kept codecs.Vp9 packetizer of none = absurd (let sent : sends_no_ids packetizer ≡ false = ap sends_no_ids (is_vp9 packetizer of).1 in cc)
 are_kept codecs.Opus packetizer of none = (refl, refl)

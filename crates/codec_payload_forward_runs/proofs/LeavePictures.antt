@@ -198,7 +198,7 @@ frames_send first starts sample s t ds frames made = by made.payloads refl
 
 -- A run
 
-must_send : (sample : Sample) (s t : Sending) (fault : Option PacketError) (id : ℕ) → s.packetizer ≡ Vp8Packetizing (Some id) → SendsOrRefuses (sent_sample sample) s fault t → Sends s (sent_sample sample) t
+pub must_send : (sample : Sample) (s t : Sending) (fault : Option PacketError) (id : ℕ) → s.packetizer ≡ Vp8Packetizing (Some id) → SendsOrRefuses (sent_sample sample) s fault t → Sends s (sent_sample sample) t
 must_send sample s t None id own does = does
 must_send sample s t (Some fault) id own refuses =
     let step = refuses.1.packetized (ap is_built_in own) in

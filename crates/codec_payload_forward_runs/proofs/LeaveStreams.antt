@@ -55,7 +55,7 @@ use Rattle.codec_payload_forward_runs.specs.LeaveReleases.{AreWhole, Event, IsWh
 
 -- Lists of packets
 
-datagrams_append : (stream : Outgoing) (ps : List Packet) (ds : List (List ℕ)) (qs : List Packet) (es : List (List ℕ)) → AreDatagrams stream ps ds → AreDatagrams stream qs es → AreDatagrams stream (ps ++ qs) (ds ++ es)
+pub datagrams_append : (stream : Outgoing) (ps : List Packet) (ds : List (List ℕ)) (qs : List Packet) (es : List (List ℕ)) → AreDatagrams stream ps ds → AreDatagrams stream qs es → AreDatagrams stream (ps ++ qs) (ds ++ es)
 datagrams_append stream [] [] qs es here more = more
 datagrams_append stream [] (d ∷ ds) qs es here more = absurd here
 datagrams_append stream (p ∷ ps) [] qs es here more = absurd here
@@ -101,7 +101,7 @@ from_times : (packetizer : PacketizerState) (sample : Sample) (rtp_time number p
 from_times packetizer sample rtp_time number place [] = refl
 from_times packetizer sample rtp_time number place (payload ∷ payloads) = ap (λ (ts : List ℕ). rtp_time ∷ ts) (from_times packetizer sample rtp_time ((number + 1) % 2 ^ 64) (place + 1) payloads)
 
-packet_times : (ps qs : List Packet) → times_in (ps ++ qs) ≡ times_in ps ++ times_in qs
+pub packet_times : (ps qs : List Packet) → times_in (ps ++ qs) ≡ times_in ps ++ times_in qs
 packet_times [] qs = refl
 packet_times (p ∷ ps) qs = ap (λ (ts : List ℕ). p.rtp_time ∷ ts) (packet_times ps qs)
 
@@ -168,11 +168,11 @@ skips id mtu frame roomy = ap (λ (b : Bool). is_empty frame || b) (roomy_not id
     or_false true = refl
     or_false false = refl
 
-same_canonical : (a b mtu : ℕ) (frame : List ℕ) → 4 < mtu → canonical_units (Vp8Packetizing (Some a)) mtu frame ≡ canonical_units (Vp8Packetizing (Some b)) mtu frame
+pub same_canonical : (a b mtu : ℕ) (frame : List ℕ) → 4 < mtu → canonical_units (Vp8Packetizing (Some a)) mtu frame ≡ canonical_units (Vp8Packetizing (Some b)) mtu frame
 same_canonical a b mtu frame roomy =
     ap (λ (x : Bool). cond (x || false) [] (((frame ∷ []) ∷ []))) (skips a mtu frame roomy ∙ sym (skips b mtu frame roomy))
 
-next_is : (gave : Bool) (id : ℕ) → (next : ℕ) × (advanced gave (Some id) ≡ Some next)
+pub next_is : (gave : Bool) (id : ℕ) → (next : ℕ) × (advanced gave (Some id) ≡ Some next)
 next_is true id = ((id + 1) % 2 ^ 15, refl)
 next_is false id = (id, refl)
 

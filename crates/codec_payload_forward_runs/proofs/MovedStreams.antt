@@ -32,19 +32,19 @@ use Rattle.codec_payload_forward_runs.proofs.SenderLemmas.{map_append}
 
 -- Lists
 
-packets_append : (us vs : List SentUnit) → packets_of (us ++ vs) ≡ packets_of us ++ packets_of vs
+pub packets_append : (us vs : List SentUnit) → packets_of (us ++ vs) ≡ packets_of us ++ packets_of vs
 packets_append [] vs = refl
 packets_append (u ∷ us) vs = ap (λ (zs : List Packet). u.packets ++ zs) (packets_append us vs) ∙ sym (append_assoc u.packets (packets_of us) (packets_of vs))
 
-lawful_append : (kind : DepacketizerKind) (splits : Bool) (us vs : List SentUnit) → AllLawful kind splits us → AllLawful kind splits vs → AllLawful kind splits (us ++ vs)
+pub lawful_append : (kind : DepacketizerKind) (splits : Bool) (us vs : List SentUnit) → AllLawful kind splits us → AllLawful kind splits vs → AllLawful kind splits (us ++ vs)
 lawful_append kind splits [] vs a b = b
 lawful_append kind splits (u ∷ us) vs a b = (a.0, lawful_append kind splits us vs a.1 b)
 
-numbered_append : (n : ℕ) (ps qs : List Packet) → AreNumbered n ps → AreNumbered (n + length ps) qs → AreNumbered n (ps ++ qs)
+pub numbered_append : (n : ℕ) (ps qs : List Packet) → AreNumbered n ps → AreNumbered (n + length ps) qs → AreNumbered n (ps ++ qs)
 numbered_append n [] qs a b = subst (λ (m : ℕ). AreNumbered m qs) (omega arith) b
 numbered_append n (p ∷ ps) qs a b = (a.0, numbered_append (n + 1) ps qs a.1 (subst (λ (m : ℕ). AreNumbered m qs) (omega arith) b))
 
-readable : (id : Option ℕ) (samples : List Sample) → AreReadable (Vp8Packetizing id) samples
+pub readable : (id : Option ℕ) (samples : List Sample) → AreReadable (Vp8Packetizing id) samples
 readable id [] = tt
 readable id (sample ∷ samples) = (refl, readable id samples)
 

@@ -221,7 +221,7 @@ module _ (e : Forward) (fits_type : e.settings.payload_type < 128) (fits_ssrc : 
     sends_or_refuses sample None s t keeps some sends = sends_too sample s t keeps some sends
     sends_or_refuses sample (Some fault) s t keeps some refuses = (refuses.0, refuses_too sample fault s t keeps refuses.1)
 
-    sends_it_too : (sample : Sample) (s t : Sending) (before after : List (List ℕ)) (entry : SentSample) → good s.packetizer → 0 < s.stream.clock_rate → SendsIt sample s before entry t after
+    pub sends_it_too : (sample : Sample) (s t : Sending) (before after : List (List ℕ)) (entry : SentSample) → good s.packetizer → 0 < s.stream.clock_rate → SendsIt sample s before entry t after
         → SendsIt (viewer_sample e s.stream.clock_rate sample) (seen_sender view e s) (map (viewer_datagram e) before) entry (seen_sender view e t) (map (viewer_datagram e) after)
     sends_it_too sample s t before after entry keeps some sends = record {
       sends = sends_or_refuses sample entry.fault s t keeps some sends.sends;

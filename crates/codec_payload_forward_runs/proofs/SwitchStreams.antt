@@ -26,7 +26,7 @@ from_at n (suc k) (e ∷ ds) d from there =
     let same : n + 1 + k ≡ n + suc k = omega arith in
     subst (λ (m : ℕ). number_in d ≡ Some (m % 65536)) same (from_at (n + 1) k ds d from.1 there)
 
-seq_is : (n k : ℕ) (ds : List (List ℕ)) (p : Packet) → From n ds → IsPacketAt ds k p → p.header.sequence_number ≡ (n + k) % 65536
+pub seq_is : (n k : ℕ) (ds : List (List ℕ)) (p : Packet) → From n ds → IsPacketAt ds k p → p.header.sequence_number ≡ (n + k) % 65536
 seq_is n k ds p from there = same_Some p.header.sequence_number ((n + k) % 65536) (sym (ap number_of there.2) ∙ from_at n k ds there.0 from there.1)
 
 -- the number that is nearest to the highest one is that of the index

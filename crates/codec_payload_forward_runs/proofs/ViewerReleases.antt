@@ -71,7 +71,7 @@ has_ids codecs.Rtx packetizer moves of = absurd (cc)
 has_ids codecs.Red packetizer moves of = absurd (cc)
 has_ids codecs.Unknown packetizer moves of = absurd (cc)
 
-times_moved : (o : IdOffsets) (qs : List Packet) → times_in (moved_packets o qs) ≡ times_in qs
+pub times_moved : (o : IdOffsets) (qs : List Packet) → times_in (moved_packets o qs) ≡ times_in qs
 times_moved o [] = refl
 times_moved o (q ∷ qs) = ap (λ (ts : List ℕ). q.rtp_time ∷ ts) (times_moved o qs)
 
@@ -105,7 +105,7 @@ module _ (e : Forward) (fits_type : e.settings.payload_type < 128) (fits_ssrc : 
       let same : viewer_packet x p ≡ sent = same_packet (viewer_packet x p) sent (sym here ∙ is) in
       reads e fits_type fits_ssrc d p of.1 (omega (arith, of.2.padding)) ∙ (ap (λ (z : rtp.Packet). Ok z) (moved_is p) ∙ ap (λ (z : rtp.Packet). Ok (moves z)) same)
 
-  reads_moved : (qs : List Packet) (ds : List (List ℕ)) → AllOf steady ssrc codec ds → AreDatagrams stream qs (map (viewer_datagram x) ds)
+  pub reads_moved : (qs : List Packet) (ds : List (List ℕ)) → AllOf steady ssrc codec ds → AreDatagrams stream qs (map (viewer_datagram x) ds)
       → AreDatagrams stream (moved_packets o qs) (map (viewer_datagram e) ds)
   reads_moved [] [] of are = tt
   reads_moved [] (d ∷ ds) of are = absurd are

@@ -11,3 +11,5 @@ pub mod StoreRuns
 pub mod SwitchReleases
 pub mod SwitchRunExample
 pub mod SwitchRuns
+pub mod SwitchUnits
+pub mod SwitchUnitsExample

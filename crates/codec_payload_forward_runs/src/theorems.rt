@@ -5,6 +5,7 @@ ghost use Rattle.codec_payload_forward_runs.specs.ForwardRunExample.{ForwardingC
 ghost use Rattle.codec_payload_forward_runs.specs.LeaveRunExample.{LeavingCanBeMet};
 ghost use Rattle.codec_payload_forward_runs.specs.StoreRunExample.{StoreCanBeMet};
 ghost use Rattle.codec_payload_forward_runs.specs.SwitchRunExample.{SwitchingCanBeMet};
+ghost use Rattle.codec_payload_forward_runs.specs.SwitchUnitsExample.{SwitchedUnitsCanBeMet};
 
 /// The premises of a run with a forwarder can be met: datagrams of Opus come to the forwarder in another order, and to the viewer in
 /// another one again. All come on both hops before the stream ends. Frames of VP8 meet them too, whose forwarder begins at a keyframe,
@@ -29,6 +30,12 @@ pub fn store_premises_can_be_met()
 /// packets that it writes have consecutive numbers.
 pub fn switching_premises_can_be_met()
     ensures { SwitchingCanBeMet }
+{}
+
+/// The premises on the units of a run with one switch can be met: of a frame of one source and two frames of another one, the last two
+/// come to the viewer in another order. All come before the stream ends. The frames are of Opus, and of VP8 with picture ids.
+pub fn switched_units_premises_can_be_met()
+    ensures { SwitchedUnitsCanBeMet }
 {}
 
 /// A packet that the sender retransmitted on the first hop (RFC 4588), and that was unwrapped (`OriginalStream::write`), reads as
