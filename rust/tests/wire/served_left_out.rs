@@ -4,14 +4,17 @@
 
 use crate::Fail;
 use crate::forwarded::{BLOCKS, copies, popped_in};
+use crate::forwarded_again::{link_of_opus, opus_samples};
 use crate::forwarded_left_out::{close_up, is_left_out};
 use crate::served::{LEAVES, Plan, STREAM, session, taken_by};
+use crate::served_again::{OPUS, OPUS_AGAIN, at, opus_taken, session_of_opus};
 use crate::with_ids::{FIRST_IDS, frame_of, link_from, samples};
 use codec_payload::codec::NoBox;
 use codec_payload::forward::Forwarded;
 use codec_payload::schedule::served::{
     ServeLeaveStep, ServeLink, ServeStep, ServedRun, run_served_leaving_out,
 };
+use codec_payload::session::runs::{SessionStep, StepAnswer};
 use codec_payload::wire::Ticks;
 
 fn link_of(id: u16) -> Result<ServeLink<NoBox, NoBox>, Fail> {
@@ -135,5 +138,69 @@ fn numbers_and_ids_close_up() -> Result<(), Fail> {
         let begun = plan.plan.begun.ok_or("nothing is forwarded")?;
         close_up(&run.run, begun, &plan.plan.written)?;
     }
+    Ok(())
+}
+
+/// The steps of the theorem that the premises can be met: the second datagram is lost on the first hop, comes as a retransmission, and is
+/// left out. The viewer gets the other two in another order.
+fn steps_of_theorem() -> Vec<ServeLeaveStep> {
+    let arrive = |datagram, time| ServeStep::Arrive {
+        datagram,
+        at: at(time),
+    };
+    let deliver = |written, now| ServeStep::Deliver {
+        written,
+        now: Ticks(now),
+    };
+    let pop = || ServeStep::Pop { now: Ticks(44) };
+    let call = SessionStep::Poll { now: Ticks(40) };
+    let repeat = ServeStep::Repeat {
+        datagram: 1,
+        again: OPUS_AGAIN,
+        at: at(960),
+    };
+    let first = vec![
+        ServeStep::Send(0),
+        arrive(0, 0),
+        ServeStep::Send(1),
+        ServeStep::Call(call),
+    ];
+    let third = vec![ServeStep::Send(2), arrive(2, 1_920)];
+    let viewer = vec![
+        deliver(1, 40),
+        deliver(0, 41),
+        ServeStep::Finish,
+        pop(),
+        pop(),
+    ];
+    let mut steps: Vec<_> = first.into_iter().map(ServeLeaveStep::Plain).collect();
+    steps.push(ServeLeaveStep::LeaveOut(repeat));
+    let later = third.into_iter().chain(viewer);
+    steps.extend(later.map(ServeLeaveStep::Plain));
+    steps
+}
+
+/// The theorem takes these results of sends and of the forwarder as given, and which datagrams the session took.
+#[test]
+fn the_run_of_the_theorem_pops_the_other_frames() -> Result<(), Fail> {
+    let mut link = ServeLink {
+        link: link_of_opus()?.link,
+        session: session_of_opus()?,
+        stream: OPUS,
+    };
+    let run = run_served_leaving_out(&mut link, &opus_samples()?, &steps_of_theorem())?;
+    assert_eq!(opus_taken(&run.answers), [true, false, true, true]);
+    assert!(matches!(run.answers[1], StepAnswer::Polled(_)));
+    let sends = &run.run.run.sends;
+    assert_eq!(sends.len(), 3);
+    assert!(
+        sends
+            .iter()
+            .all(|sent| sent.count == 1 && sent.fault.is_none())
+    );
+    let answers = [Forwarded::Began, Forwarded::LeftOut, Forwarded::Written];
+    assert_eq!(run.run.answers, answers);
+    assert_eq!(popped_in(&run.run)?, [1, 2, 5]);
+    assert_eq!(run.run.run.pops.iter().flatten().count(), 2);
     Ok(())
 }
