@@ -59,8 +59,13 @@ pub fn run_forwarded_leaving_out<P: Packetizer, D: Depacketizer>(
     Ok(run)
 }
 
-/// Executes one step, and records its result.
-fn do_leave_step<P: Packetizer, D: Depacketizer>(
+/// Executes one step of [`run_forwarded_leaving_out`], and appends its results to those of the earlier steps. A step that names nothing
+/// changes nothing.
+///
+/// # Errors
+///
+/// `OutOfMemory`: sender, forwarder and receiver are as the failed call left them. Discard the results, which may lack some of this step.
+pub fn do_leave_step<P: Packetizer, D: Depacketizer>(
     alloc: Global,
     link: &mut ForwardLink<P, D>,
     samples: &[ToPayload],
@@ -89,7 +94,11 @@ fn do_leave_step<P: Packetizer, D: Depacketizer>(
 }
 
 /// Leaves a packet out, and appends the packet of padding, if the forwarder wrote one.
-fn leave_out(
+///
+/// # Errors
+///
+/// `OutOfMemory`: the forwarder is unchanged.
+pub fn leave_out(
     alloc: Global,
     forwarder: &mut Forwarder,
     packet: &RtpPacket<'_>,

@@ -1,9 +1,12 @@
 pub mod ArrivalLemmas
+pub mod LeaveServing
 pub mod SenderPackets
 pub mod SentAt
+pub mod ServeLeaveRunExamples
 pub mod ServeLemmas
 pub mod ServeRunExamples
 pub mod ServeStoreRunExamples
+pub mod ServedLeavingReleases
 pub mod ServedReleases
 pub mod ServedStoreReleases
 pub mod ServingArrivals

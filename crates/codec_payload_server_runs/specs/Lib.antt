@@ -1,3 +1,6 @@
+pub mod ServeLeaveReleases
+pub mod ServeLeaveRunExample
+pub mod ServeLeaveRuns
 pub mod ServeReleases
 pub mod ServeRunExample
 pub mod ServeRuns

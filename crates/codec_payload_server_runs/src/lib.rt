@@ -2,6 +2,7 @@
 //! forwarder, and what the forwarder writes comes to a viewer's receiver. On both hops datagrams are lost, repeated and reordered.
 #![tactic(auto)]
 
+pub mod leave_run;
 pub mod run;
 mod serving;
 pub mod store_run;

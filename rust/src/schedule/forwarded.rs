@@ -13,7 +13,7 @@ pub mod store_run;
 pub mod switch_run;
 
 #[doc(inline)]
-pub use leave_run::{LeaveStep, run_forwarded_leaving_out};
+pub use leave_run::{LeaveStep, do_leave_step, leave_out, run_forwarded_leaving_out};
 
 #[doc(inline)]
 pub use run::{

@@ -4,10 +4,15 @@
 //! forwarder, and what the forwarder writes comes to a viewer's receiver. On both hops datagrams are lost, repeated and reordered.
 
 #[doc(hidden)]
+pub mod leave_run;
+#[doc(hidden)]
 pub mod run;
 mod serving;
 #[doc(hidden)]
 pub mod store_run;
+
+#[doc(inline)]
+pub use leave_run::{ServeLeaveStep, run_served_leaving_out};
 
 #[doc(inline)]
 pub use run::{Moment, ServeLink, ServeStep, ServedRun, run_served};

@@ -16,7 +16,7 @@ use codec_payload::wire::Ticks;
 const FRAMES: usize = 200;
 
 /// The frames with an odd index are left out.
-fn is_left_out(datagram: usize) -> bool {
+pub fn is_left_out(datagram: usize) -> bool {
     !(datagram / 2).is_multiple_of(2)
 }
 
@@ -128,25 +128,32 @@ fn other_frames_come_out() -> Result<(), Fail> {
     Ok(())
 }
 
+/// The numbers and ids of the written datagrams have no gaps. The forwarder began with the datagram `begun`; `written` has the datagram
+/// that each written one is.
+pub fn close_up(run: &ForwardedRun, begun: usize, written: &[usize]) -> Result<(), Fail> {
+    assert_eq!(run.written.len(), written.len());
+    for (bytes, datagram) in run.written.iter().zip(written) {
+        let got = RtpPacket::parse(bytes)?;
+        let sent = RtpPacket::parse(&run.run.datagrams[*datagram])?;
+        // Two of each four datagrams since the first one are left out.
+        let place = (begun..*datagram).filter(|it| !is_left_out(*it)).count();
+        let number = 65_000u16.wrapping_add(place as u16);
+        assert_eq!(got.header.sequence_number, number);
+        let wide = sent.payload[2] & 0x80 != 0;
+        assert_eq!(got.payload.len(), sent.payload.len());
+        let frame = (place / 2) as u16;
+        assert_eq!(id_of(got.payload), if wide { frame } else { frame % 0x80 });
+    }
+    Ok(())
+}
+
 #[test]
 fn numbers_and_ids_close_up() -> Result<(), Fail> {
     for first_id in FIRST_IDS {
         let schedule = schedule_of(u32::from(first_id));
         let run = run_of(first_id, &schedule)?;
         let begun = schedule.begun.ok_or("nothing is forwarded")?;
-        assert_eq!(run.written.len(), schedule.written.len());
-        for (bytes, datagram) in run.written.iter().zip(&schedule.written) {
-            let got = RtpPacket::parse(bytes)?;
-            let sent = RtpPacket::parse(&run.run.datagrams[*datagram])?;
-            // Two of each four datagrams since the first one are left out.
-            let place = (begun..*datagram).filter(|it| !is_left_out(*it)).count();
-            let number = 65_000u16.wrapping_add(place as u16);
-            assert_eq!(got.header.sequence_number, number);
-            let wide = sent.payload[2] & 0x80 != 0;
-            assert_eq!(got.payload.len(), sent.payload.len());
-            let frame = (place / 2) as u16;
-            assert_eq!(id_of(got.payload), if wide { frame } else { frame % 0x80 });
-        }
+        close_up(&run, begun, &schedule.written)?;
     }
     Ok(())
 }

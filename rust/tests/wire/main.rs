@@ -14,6 +14,7 @@ mod restarted;
 mod rows;
 mod served;
 mod served_again;
+mod served_left_out;
 mod sides;
 mod switched;
 mod with_ids;

@@ -232,6 +232,26 @@ fn a_viewer_joins_late() -> Result<(), Fail> {
 /// The sender, the forwarder, the receiver and the store of the theorem `serving_with_store_premises_can_be_met`, which are those of
 /// `store_premises_can_be_met`.
 fn link_of_theorem() -> Result<ServeStoreLink<NoBox, NoBox>, Fail> {
+    Ok(ServeStoreLink {
+        link: link_of_opus()?,
+        session: session_of_opus()?,
+        stream: OPUS,
+    })
+}
+
+/// The sender's stream of Opus in the theorems that the premises can be met, and the stream of its retransmissions.
+pub const OPUS: OriginalStream = OriginalStream {
+    ssrc: 7,
+    payload_type: 111,
+};
+pub const OPUS_AGAIN: RetransmissionStream = RetransmissionStream {
+    ssrc: 8,
+    payload_type: 112,
+    first_number: 500,
+};
+
+/// A session for these streams.
+pub fn session_of_opus() -> Result<Session, Fail> {
     let mut settings = SessionSettings::live();
     settings.formats = vec![Format {
         retransmission: Some(112),
@@ -242,29 +262,36 @@ fn link_of_theorem() -> Result<ServeStoreLink<NoBox, NoBox>, Fail> {
         retransmission: 8,
     }];
     settings.probation = 1;
-    Ok(ServeStoreLink {
-        link: link_of_opus()?,
-        session: Session::new(settings)?,
-        stream: OriginalStream {
-            ssrc: 7,
-            payload_type: 111,
-        },
-    })
+    Ok(Session::new(settings)?)
+}
+
+/// A moment that is the same for the session and for the forwarder.
+pub fn at(time: u64) -> Moment {
+    Moment {
+        now: Ticks(time),
+        micros: None,
+        time,
+    }
+}
+
+/// Whether the session took the datagram of each answer as one of that stream.
+pub fn opus_taken(answers: &[StepAnswer]) -> Vec<bool> {
+    let taken = answers.iter().map(|answer| {
+        matches!(
+            answer,
+            StepAnswer::Received(Ok(Arrival::Stream {
+                ssrc: 7,
+                payload_type: 111,
+                ..
+            }))
+        )
+    });
+    taken.collect()
 }
 
 /// The steps of that theorem: the second datagram is lost on the first hop and comes as a retransmission. It is lost on the second hop
 /// too, and comes from the store.
 fn steps_of_theorem() -> Vec<ServeStoreStep> {
-    let at = |time| Moment {
-        now: Ticks(time),
-        micros: None,
-        time,
-    };
-    let again = RetransmissionStream {
-        ssrc: 8,
-        payload_type: 112,
-        first_number: 500,
-    };
     let arrive = |datagram, time| ServeStep::Arrive {
         datagram,
         at: at(time),
@@ -276,7 +303,7 @@ fn steps_of_theorem() -> Vec<ServeStoreStep> {
     let call = SessionStep::Poll { now: Ticks(40) };
     let repeat = ServeStep::Repeat {
         datagram: 1,
-        again,
+        again: OPUS_AGAIN,
         at: at(960),
     };
     let first = [ServeStep::Send(0), arrive(0, 0), ServeStep::Send(1)];
@@ -300,17 +327,7 @@ fn steps_of_theorem() -> Vec<ServeStoreStep> {
 fn the_run_of_the_theorem_pops_all_frames() -> Result<(), Fail> {
     let mut link = link_of_theorem()?;
     let run = run_served_with_store(&mut link, &opus_samples()?, &steps_of_theorem())?;
-    let taken = run.answers.iter().map(|answer| {
-        matches!(
-            answer,
-            StepAnswer::Received(Ok(Arrival::Stream {
-                ssrc: 7,
-                payload_type: 111,
-                ..
-            }))
-        )
-    });
-    assert_eq!(taken.collect::<Vec<_>>(), [true, false, true, true]);
+    assert_eq!(opus_taken(&run.answers), [true, false, true, true]);
     assert!(matches!(run.answers[1], StepAnswer::Polled(_)));
     compare_with_theorem(&run.run)
 }
