@@ -1,6 +1,6 @@
 -- What a run of a media server that leaves packets out states, from the theorems on runs of a session and on runs whose forwarder leaves
 -- packets out.
-use Rattle.std.proofs.Common.{◌≡◌, ◌∙◌, refl, sym, ap, subst, ℕ, List, [], ◌∷◌, ◌++◌, Bool, true, false, Option, Some, None, MatchOption, map}
+use Rattle.std.proofs.Common.{◌≡◌, refl, sym, ap, subst, ℕ, List, [], ◌∷◌, ◌++◌, Bool, true, false, Option, Some, None, MatchOption, map}
 use Rattle.std.specs.Prelude.{slice_get}
 use Rattle.codec_payload_payloader.specs.Sending.{Sample}
 use Rattle.codec_payload_receiver.specs.Sessions.{Session as Receiver}
@@ -17,11 +17,11 @@ use Rattle.codec_payload_forward_runs.specs.declared.leave_run.LeaveStep.{LeaveS
 use Rattle.codec_payload_forward_runs.specs.declared.run.ForwardStep.{ForwardStep}
 use Rattle.codec_payload_forward_runs.specs.declared.run.ForwardStep.TheVariants as plain
 use Rattle.codec_payload_server_runs.proofs.ServeLemmas.{Keeps, keeps_comes, keeps_same}
-use Rattle.codec_payload_server_runs.proofs.ServingLemmas.{AllKeep, IsBehind, follows, is_hop}
+use Rattle.codec_payload_server_runs.proofs.ServingLemmas.{AllKeep, DoesOne, IsBehind, byte_for_byte, follows, is_hop, unwraps_bytes}
 use Rattle.codec_payload_server_runs.proofs.ServingSessions.{as_session}
 use Rattle.codec_payload_server_runs.specs.ServeLeaveReleases.{ReleasesServedLeavingOut, ServesKept, ServesLeavingAsSession, UnwrapsLeaving, leaving_steps_of}
-use Rattle.codec_payload_server_runs.specs.ServeLeaveRuns.{DoesLeavingOut, PassesOrIsLeftOut, ServeLeaveRuns, begins_serving_leaving_out, hops_in, left_as, step_of}
-use Rattle.codec_payload_server_runs.specs.Serving.{Follow, Serving}
+use Rattle.codec_payload_server_runs.specs.ServeLeaveRuns.{PassesOrIsLeftOut, ServeLeaveRuns, begins_serving_leaving_out, hops_in, left_as, step_of}
+use Rattle.codec_payload_server_runs.specs.Serving.{Follow, IsSpelled, Serving}
 use Rattle.codec_payload_server_runs.specs.declared.leave_run.ServeLeaveStep.{ServeLeaveStep}
 use Rattle.codec_payload_server_runs.specs.declared.leave_run.ServeLeaveStep.TheVariants as steps
 
@@ -58,19 +58,19 @@ module _ (stream : OriginalStream) (samples : List Sample) where
   hop_is (plain.Pop now) m s t hop does = does
   hop_is plain.Finish m s t hop does = does
 
-  behind : IsBehind hops_in PassesOrIsLeftOut left_as (DoesLeaveStep samples) stream samples
-  behind = record { passes = passes_is; keeps = passes_keep; hops = hop_is }
+  behind : IsBehind hops_in PassesOrIsLeftOut left_as (DoesLeaveStep samples) IsSpelled stream samples
+  behind = record { passes = passes_is; keeps = passes_keep; hops = hop_is; unwraps = unwraps_bytes PassesOrIsLeftOut stream }
 
-  all_keep : (all_steps : List ServeLeaveStep) → AllKeep hops_in PassesOrIsLeftOut left_as (DoesLeaveStep samples) stream samples (map step_of all_steps)
+  all_keep : (all_steps : List ServeLeaveStep) → AllKeep hops_in PassesOrIsLeftOut left_as (DoesLeaveStep samples) IsSpelled stream samples (map step_of all_steps)
   all_keep [] = tt
   all_keep (steps.Plain step ∷ later) = all_keep later
   all_keep (steps.LeaveOut step ∷ later) = all_keep later
 
   -- A whole run
 
-  in_order : (all_steps : List ServeLeaveStep) (s t : Serving Hops) → ServeLeaveRuns stream samples all_steps s t → Follow (DoesLeavingOut stream samples) (map step_of all_steps) s t
+  in_order : (all_steps : List ServeLeaveStep) (s t : Serving Hops) → ServeLeaveRuns stream samples all_steps s t → Follow (DoesOne hops_in PassesOrIsLeftOut left_as (DoesLeaveStep samples) IsSpelled stream) (map step_of all_steps) s t
   in_order [] s t run = run
-  in_order (step ∷ later) s t run = (run.0, run.1, in_order later run.0 t run.2)
+  in_order (step ∷ later) s t run = (run.0, byte_for_byte hops_in PassesOrIsLeftOut left_as (DoesLeaveStep samples) stream (step_of step) s run.0 run.1, in_order later run.0 t run.2)
 
   leaving_run : (all_steps : List LeaveStep) (s t : Hops) → Follow (DoesLeaveStep samples) all_steps s t → LeaveRuns samples all_steps s t
   leaving_run [] s t run = run
@@ -84,7 +84,7 @@ module _ (stream : OriginalStream) (samples : List Sample) where
     leaving : UnwrapsLeaving stream all_steps start → LeaveRuns samples (leaving_steps_of stream samples all_steps t) start.behind t.behind
     leaving own =
         leaving_run (leaving_steps_of stream samples all_steps t) start.behind t.behind
-        (follows hops_in PassesOrIsLeftOut left_as (DoesLeaveStep samples) stream samples behind (map step_of all_steps) start t (all_keep all_steps) refl refl refl (in_order all_steps start t run) own)
+        (follows hops_in PassesOrIsLeftOut left_as (DoesLeaveStep samples) IsSpelled stream samples behind (map step_of all_steps) start t (all_keep all_steps) refl refl refl (in_order all_steps start t run) own)
 
     pub packets_served_leaving_out : ServesKept stream samples all_steps start t
     packets_served_leaving_out own = forward_leaving_out samples (leaving_steps_of stream samples all_steps t) sender forwarder receiver t.behind (leaving own)
@@ -94,4 +94,4 @@ module _ (stream : OriginalStream) (samples : List Sample) where
 
     pub served_leaving_session : ServesLeavingAsSession stream samples all_steps start t
     served_leaving_session =
-        as_session hops_in PassesOrIsLeftOut left_as (DoesLeaveStep samples) stream samples behind (map step_of all_steps) start t (all_keep all_steps) refl refl refl (in_order all_steps start t run)
+        as_session hops_in PassesOrIsLeftOut left_as (DoesLeaveStep samples) IsSpelled stream samples behind (map step_of all_steps) start t (all_keep all_steps) refl refl refl (in_order all_steps start t run)

@@ -1,5 +1,5 @@
 -- What a run of a media server with a store states, from the theorems on runs of a session and on runs with a forwarder and a store.
-use Rattle.std.proofs.Common.{◌≡◌, ◌∙◌, refl, sym, ap, subst, ℕ, List, [], ◌∷◌, ◌++◌, Bool, true, false, Option, Some, None, MatchOption, map}
+use Rattle.std.proofs.Common.{◌≡◌, refl, sym, ap, subst, ℕ, List, [], ◌∷◌, ◌++◌, Bool, true, false, Option, Some, None, MatchOption, map}
 use Rattle.std.specs.Prelude.{slice_get}
 use Rattle.codec_payload_base.specs.declared.wire.Ticks.{Ticks}
 use Rattle.codec_payload_payloader.specs.Sending.{Sample}
@@ -11,18 +11,18 @@ use Rattle.codec_payload_sending_history.specs.declared.original.OriginalStream.
 use Rattle.codec_payload_session.specs.Ports.{Session}
 use Rattle.codec_payload_datagram_runs.specs.WireRuns.{Delivers, Receipt}
 use Rattle.codec_payload_forward_runs.proofs.StoreReleaseLemmas.{release_with_store}
-use Rattle.codec_payload_forward_runs.specs.ForwardRuns.{Comes, DoesForwardStep, Hops, packet_in}
+use Rattle.codec_payload_forward_runs.specs.ForwardRuns.{Comes, DoesForwardStep, packet_in}
 use Rattle.codec_payload_forward_runs.specs.StoreRuns.{DoesStoreStep, KeepsPacket, StoreRuns, Stored}
 use Rattle.codec_payload_forward_runs.specs.declared.run.ForwardStep.{ForwardStep}
 use Rattle.codec_payload_forward_runs.specs.declared.run.ForwardStep.TheVariants as plain
 use Rattle.codec_payload_forward_runs.specs.declared.store_run.StoreStep.{StoreStep}
 use Rattle.codec_payload_forward_runs.specs.declared.store_run.StoreStep.TheVariants as stored
 use Rattle.codec_payload_server_runs.proofs.ServeLemmas.{Keeps, keeps_comes, keeps_same}
-use Rattle.codec_payload_server_runs.proofs.ServingLemmas.{AllKeep, IsBehind, follows, is_hop}
+use Rattle.codec_payload_server_runs.proofs.ServingLemmas.{AllKeep, DoesOne, IsBehind, byte_for_byte, follows, is_hop, unwraps_bytes}
 use Rattle.codec_payload_server_runs.proofs.ServingSessions.{as_session}
-use Rattle.codec_payload_server_runs.specs.ServeStoreReleases.{ReleasesServedWithStore, ServesStoreAsSession, UnwrapsStored, stored_steps_of}
-use Rattle.codec_payload_server_runs.specs.ServeStoreRuns.{DoesServeStoreStep, DoesWithStore, PassesToStore, ServeStoreRuns, begins_serving_with_store, hops_in, step_of, stored_as}
-use Rattle.codec_payload_server_runs.specs.Serving.{Follow, Serving}
+use Rattle.codec_payload_server_runs.specs.ServeStoreReleases.{ReleasesServedWithStore, ServesStoreAsSession, stored_steps_of}
+use Rattle.codec_payload_server_runs.specs.ServeStoreRuns.{PassesToStore, ServeStoreRuns, begins_serving_with_store, hops_in, step_of, stored_as}
+use Rattle.codec_payload_server_runs.specs.Serving.{Follow, IsSpelled, Serving}
 use Rattle.codec_payload_server_runs.specs.declared.store_run.ServeStoreStep.{ServeStoreStep}
 use Rattle.codec_payload_server_runs.specs.declared.store_run.ServeStoreStep.TheVariants as steps
 
@@ -54,8 +54,8 @@ module _ (stream : OriginalStream) (samples : List Sample) where
   hop_is (plain.Pop now) m s t hop does = plain_is (plain.Pop now) s t does
   hop_is plain.Finish m s t hop does = plain_is plain.Finish s t does
 
-  behind : IsBehind hops_in PassesToStore stored_as (DoesStoreStep samples) stream samples
-  behind = record { passes = passes_is; keeps = passes_keep; hops = hop_is }
+  behind : IsBehind hops_in PassesToStore stored_as (DoesStoreStep samples) IsSpelled stream samples
+  behind = record { passes = passes_is; keeps = passes_keep; hops = hop_is; unwraps = unwraps_bytes PassesToStore stream }
 
   -- requests, and deliveries of what was written again
 
@@ -77,7 +77,7 @@ module _ (stream : OriginalStream) (samples : List Sample) where
     sending = ap (λ (x : Stored). x.hops.wire.sending) does.4;
   }
 
-  all_keep : (all_steps : List ServeStoreStep) → AllKeep hops_in PassesToStore stored_as (DoesStoreStep samples) stream samples (map step_of all_steps)
+  all_keep : (all_steps : List ServeStoreStep) → AllKeep hops_in PassesToStore stored_as (DoesStoreStep samples) IsSpelled stream samples (map step_of all_steps)
   all_keep [] = tt
   all_keep (steps.Plain step ∷ later) = all_keep later
   all_keep (steps.Keep step ∷ later) = all_keep later
@@ -86,9 +86,9 @@ module _ (stream : OriginalStream) (samples : List Sample) where
 
   -- A whole run
 
-  in_order : (all_steps : List ServeStoreStep) (s t : Serving Stored) → ServeStoreRuns stream samples all_steps s t → Follow (DoesWithStore stream samples) (map step_of all_steps) s t
+  in_order : (all_steps : List ServeStoreStep) (s t : Serving Stored) → ServeStoreRuns stream samples all_steps s t → Follow (DoesOne hops_in PassesToStore stored_as (DoesStoreStep samples) IsSpelled stream) (map step_of all_steps) s t
   in_order [] s t run = run
-  in_order (step ∷ later) s t run = (run.0, run.1, in_order later run.0 t run.2)
+  in_order (step ∷ later) s t run = (run.0, byte_for_byte hops_in PassesToStore stored_as (DoesStoreStep samples) stream (step_of step) s run.0 run.1, in_order later run.0 t run.2)
 
   stored_run : (all_steps : List StoreStep) (s t : Stored) → Follow (DoesStoreStep samples) all_steps s t → StoreRuns samples all_steps s t
   stored_run [] s t run = run
@@ -103,8 +103,8 @@ module _ (stream : OriginalStream) (samples : List Sample) where
     release_served_with_store own =
         release_with_store samples (stored_steps_of stream samples all_steps t) sender forwarder receiver store t.behind
         (stored_run (stored_steps_of stream samples all_steps t) start.behind t.behind
-        (follows hops_in PassesToStore stored_as (DoesStoreStep samples) stream samples behind (map step_of all_steps) start t (all_keep all_steps) refl refl refl (in_order all_steps start t run) own))
+        (follows hops_in PassesToStore stored_as (DoesStoreStep samples) IsSpelled stream samples behind (map step_of all_steps) start t (all_keep all_steps) refl refl refl (in_order all_steps start t run) own))
 
     pub served_store_session : ServesStoreAsSession stream samples all_steps start t
     served_store_session =
-        as_session hops_in PassesToStore stored_as (DoesStoreStep samples) stream samples behind (map step_of all_steps) start t (all_keep all_steps) refl refl refl (in_order all_steps start t run)
+        as_session hops_in PassesToStore stored_as (DoesStoreStep samples) IsSpelled stream samples behind (map step_of all_steps) start t (all_keep all_steps) refl refl refl (in_order all_steps start t run)

@@ -1,12 +1,13 @@
 -- A run of a media server is a run of its session, and a run behind the session, whatever stands there.
 use Rattle.std.specs.Global.{Vec}
 use Rattle.std.proofs.Common.{◌≡◌, ◌∙◌, refl, sym, ap, subst, ℕ, List, [], ◌∷◌, ◌++◌, Bool, true, false, ltb, Option, Some, None, MatchOption, length, map, take, append_assoc, append-nil}
-use Rattle.std.specs.Prelude.{slice_get, ◌&&◌, IfSome}
+use Rattle.std.specs.Prelude.{slice_get, ◌&&◌}
 use Rattle.std.proofs.lemmas.Bool.{le-ltb, lt-ltb}
 use Rattle.std.proofs.lemmas.Option.{same_Some, slice_get_within}
 use Rattle.codec_payload_payloader.specs.Sending.{Sample}
-use Rattle.codec_payload_rtp.specs.RtpPackets.{IsRtp, Packet}
+use Rattle.codec_payload_rtp.specs.RtpPackets.{Packet}
 use Rattle.codec_payload_sending.specs.Senders.{Sending}
+use Rattle.codec_payload_sending_history.specs.Originals.{WritesOriginal}
 use Rattle.codec_payload_sending_history.specs.declared.original.OriginalStream.{OriginalStream}
 use Rattle.codec_payload_sending_history.specs.declared.retransmission.RetransmissionStream.{RetransmissionStream}
 use Rattle.codec_payload_session.specs.Ports.{Session}
@@ -25,11 +26,10 @@ use Rattle.codec_payload_session_runs.specs.declared.run.StepAnswer.TheVariants 
 use Rattle.codec_payload_server_runs.proofs.SenderPackets.{AllOf, IsOf, SendsItsOwn, of_at, same_bytes, sends_own, stream_of}
 use Rattle.codec_payload_server_runs.proofs.ServeLemmas.{IsMore, Keeps, Sent, and_false, keeps_delivered, keeps_same, keeps_wire, more_none, more_on, own_kept, past_end, sent_step, taken_of}
 use Rattle.codec_payload_server_runs.specs.ServeReleases.{AreCalls, UnwrapsSender, has_repeats, passed_by, says_taken}
-use Rattle.codec_payload_server_runs.specs.ServeRuns.{IsAgain, Served, fits_in, repeated_in}
+use Rattle.codec_payload_server_runs.specs.ServeRuns.{IsAgain, fits_in, repeated_in}
 use Rattle.codec_payload_server_runs.specs.Serving.{ComesTo, DoesBehind, DoesServing, Follow, IsSpelled, PassesIf, PassesUnwrapped, Serving, ServingStep, Takes, served_in, serves, unseen}
 use Rattle.codec_payload_server_runs.specs.ServingReleases.{as_steps, served_steps, steps_behind}
 use Rattle.codec_payload_server_runs.specs.declared.run.Moment.{Moment}
-use Rattle.codec_payload_server_runs.specs.declared.run.ServeStep.{ServeStep}
 use Rattle.codec_payload_server_runs.specs.declared.run.ServeStep.TheVariants as steps
 
 -- the steps of a run with a forwarder, other than that a datagram comes to the forwarder
@@ -40,14 +40,47 @@ is_hop (plain.Deliver j now) = true
 is_hop (plain.Pop now) = true
 is_hop plain.Finish = true
 
-module _ {X F : Type 0} (hops_in : X → Hops) (Passes : Bool → ℕ → List ℕ → X → X → Type 0) (seen_as : ForwardStep → Bool → F) (DoesIt : F → X → X → Type 0) (stream : OriginalStream)
-    (samples : List Sample) where
+-- One step, as `DoesServing` says. Of a datagram that is repeated, `Spelled` says how it has its packet
+abbrev pub DoesOne : {X F : Type 0} → (hops_in : X → Hops) → (Passes : Bool → ℕ → List ℕ → X → X → Type 0) → (seen_as : ForwardStep → Bool → F) → (DoesIt : F → X → X → Type 0)
+    → (Spelled : Option (List ℕ) → Packet → Type 0) → OriginalStream → ServingStep F → Serving X → Serving X → Type 0
+DoesOne hops_in Passes seen_as DoesIt Spelled stream (serves m (steps.Repeat k again at)) s t =
+    MatchOption (repeated_in stream again (slice_get (hops_in s.behind).wire.datagrams k)) (t ≡ s) (λ packet.
+    (datagram : Vec ℕ) × IsAgain again packet datagram.items × Spelled (slice_get (hops_in s.behind).wire.datagrams k) packet
+    × ComesTo stream at datagram.items (PassesUnwrapped stream datagram.items (Passes m at.time)) s t)
+DoesOne hops_in Passes seen_as DoesIt Spelled stream step s t = DoesServing hops_in Passes seen_as DoesIt stream step s t
+
+-- byte for byte
+pub byte_for_byte : {X F : Type 0} (hops_in : X → Hops) (Passes : Bool → ℕ → List ℕ → X → X → Type 0) (seen_as : ForwardStep → Bool → F) (DoesIt : F → X → X → Type 0) (stream : OriginalStream)
+    (step : ServingStep F) (s t : Serving X) → DoesServing hops_in Passes seen_as DoesIt stream step s t → DoesOne hops_in Passes seen_as DoesIt IsSpelled stream step s t
+byte_for_byte hops_in Passes seen_as DoesIt stream (unseen step) s t does = does
+byte_for_byte hops_in Passes seen_as DoesIt stream (serves m (steps.Send i)) s t does = does
+byte_for_byte hops_in Passes seen_as DoesIt stream (serves m (steps.Arrive k at)) s t does = does
+byte_for_byte hops_in Passes seen_as DoesIt stream (serves m (steps.Repeat k again at)) s t does = does
+byte_for_byte hops_in Passes seen_as DoesIt stream (serves m (steps.Call call)) s t does = does
+byte_for_byte hops_in Passes seen_as DoesIt stream (serves m (steps.Deliver j now)) s t does = does
+byte_for_byte hops_in Passes seen_as DoesIt stream (serves m (steps.Pop now)) s t does = does
+byte_for_byte hops_in Passes seen_as DoesIt stream (serves m steps.Finish) s t does = does
+
+-- what is unwrapped passes on as the datagram that was repeated
+abbrev pub Unwraps : {X : Type 0} → (Passes : Bool → ℕ → List ℕ → X → X → Type 0) → (Spelled : Option (List ℕ) → Packet → Type 0) → OriginalStream → Type 0
+Unwraps {X = X} Passes Spelled stream =
+    (m : Bool) (time : ℕ) (datagram : List ℕ) (of : IsOf stream datagram) (again : RetransmissionStream) (retransmission original : List ℕ) (s t : X) → Spelled (Some datagram) of.packet
+    → IsAgain again of.packet retransmission → WritesOriginal stream retransmission original → Passes m time original s t → Passes m time datagram s t
+
+-- since it is the datagram
+pub unwraps_bytes : {X : Type 0} (Passes : Bool → ℕ → List ℕ → X → X → Type 0) (stream : OriginalStream) → Unwraps Passes IsSpelled stream
+unwraps_bytes Passes stream m time datagram of again retransmission original s t spelled is writes passed =
+    subst (λ (d : List ℕ). Passes m time d s t) (same_bytes stream datagram of again again.first_number retransmission original spelled is writes) passed
+
+module _ {X F : Type 0} (hops_in : X → Hops) (Passes : Bool → ℕ → List ℕ → X → X → Type 0) (seen_as : ForwardStep → Bool → F) (DoesIt : F → X → X → Type 0)
+    (Spelled : Option (List ℕ) → Packet → Type 0) (stream : OriginalStream) (samples : List Sample) where
   -- what the run behind the session is to do: a datagram that passes on is a `Forward` step, and the other steps are those of a run with a
   -- forwarder alone
   pub record IsBehind : Type 0 where
     pub passes : (m : Bool) (k time : ℕ) (datagram : List ℕ) (s t : X) → slice_get (hops_in s).wire.datagrams k ≡ Some datagram → Passes m time datagram s t → DoesIt (seen_as (plain.Forward k time) m) s t
     pub keeps : (m : Bool) (time : ℕ) (datagram : List ℕ) (s t : X) → Passes m time datagram s t → Keeps (hops_in s) (hops_in t)
     pub hops : (step : ForwardStep) (m : Bool) (s t : X) → is_hop step ≡ true → DoesIt (seen_as step m) s t → DoesForwardStep samples step (hops_in s) (hops_in t)
+    pub unwraps : Unwraps Passes Spelled stream
 
   -- the steps that the session does not see send nothing
   abbrev pub AllKeep : List (ServingStep F) → Type 0
@@ -55,11 +88,11 @@ module _ {X F : Type 0} (hops_in : X → Hops) (Passes : Bool → ℕ → List �
   AllKeep (serves m step ∷ later) = AllKeep later
   AllKeep (unseen step ∷ later) = ((s t : X) → DoesIt step s t → Keeps (hops_in s) (hops_in t)) × AllKeep later
 
-  abbrev DoesOne : ServingStep F → Serving X → Serving X → Type 0
-  DoesOne step s t = DoesServing hops_in Passes seen_as DoesIt stream step s t
+  abbrev Does : ServingStep F → Serving X → Serving X → Type 0
+  Does step s t = DoesOne hops_in Passes seen_as DoesIt Spelled stream step s t
 
-  abbrev Unwraps : List (ServingStep F) → Serving X → Type 0
-  Unwraps all_steps s = UnwrapsSender stream (served_steps all_steps) (served_in hops_in s)
+  abbrev OfSender : List (ServingStep F) → Serving X → Type 0
+  OfSender all_steps s = UnwrapsSender stream (served_steps all_steps) (served_in hops_in s)
 
   abbrev wire_in : Serving X → Wire
   wire_in s = (hops_in s.behind).wire
@@ -71,7 +104,7 @@ module _ {X F : Type 0} (hops_in : X → Hops) (Passes : Bool → ℕ → List �
     pub gained : List StepAnswer
     pub told : t.answers ≡ s.answers ++ gained
     pub more : IsMore (wire_in s).datagrams (wire_in t).datagrams
-    pub follows : Unwraps all_steps s → Follow DoesIt (steps_behind seen_as stream samples sent all_steps later gained) s.behind t.behind
+    pub follows : OfSender all_steps s → Follow DoesIt (steps_behind seen_as stream samples sent all_steps later gained) s.behind t.behind
     pub made : List Call
     pub are : AreCalls stream samples (wire_in t).datagrams sent (served_steps all_steps) later made
     pub answered : map (λ (c : Call). c.answer) made ≡ gained
@@ -120,7 +153,7 @@ module _ {X F : Type 0} (hops_in : X → Hops) (Passes : Bool → ℕ → List �
 
   -- a datagram that comes to the session
   arrived : (sent k : ℕ) (m : Bool) (at : Moment) (datagram : Vec ℕ) (P : X → X → Type 0) (whole later : List (ServingStep F)) (s mid t : Serving X) → ComesTo stream at datagram.items P s mid
-      → Keeps (hops_in s.behind) (hops_in mid.behind) → (Unwraps whole s → P s.behind mid.behind → DoesIt (seen_as (plain.Forward k at.time) m) s.behind mid.behind) → Splits sent later mid t
+      → Keeps (hops_in s.behind) (hops_in mid.behind) → (OfSender whole s → P s.behind mid.behind → DoesIt (seen_as (plain.Forward k at.time) m) s.behind mid.behind) → Splits sent later mid t
       → ((entries : List SentSample) (answer : StepAnswer) (told : List StepAnswer)
       → steps_behind seen_as stream samples sent whole entries (answer ∷ told)
       ≡ as_steps seen_as m (passed_by (says_taken stream answer) k at.time) ++ steps_behind seen_as stream samples sent later entries told)
@@ -131,7 +164,7 @@ module _ {X F : Type 0} (hops_in : X → Hops) (Passes : Bool → ℕ → List �
       let takes : Takes stream at datagram.items comes.0 s.server mid.server s.answers mid.answers = comes.1 in
       let answer : StepAnswer = answers.Received takes.0 in
       let more : IsMore (wire_in s).datagrams (wire_in t).datagrams = subst (λ (ds : List (List ℕ)). IsMore ds (wire_in t).datagrams) keeps.datagrams r.more in
-      let own_later : Unwraps whole s → Unwraps later mid = λ own has. ap (λ (x : Sending). stream_of (record (wire_in mid) { sending = x })) keeps.sending ∙ own (repeats has) in
+      let own_later : OfSender whole s → OfSender later mid = λ own has. ap (λ (x : Sending). stream_of (record (wire_in mid) { sending = x })) keeps.sending ∙ own (repeats has) in
       let passed : PassesIf (says_taken stream answer) P s.behind mid.behind = subst (λ (b : Bool). PassesIf b P s.behind mid.behind) takes.2 comes.2 in
       record {
         later = r.later;
@@ -155,7 +188,7 @@ module _ {X F : Type 0} (hops_in : X → Hops) (Passes : Bool → ℕ → List �
       → AreCalls stream samples (wire_in t).datagrams sent (served_steps whole) entries cs)
       → (has_repeats (served_steps later) ≡ true → has_repeats (served_steps whole) ≡ true) → Splits sent whole s t
   hopped sent f whole later s mid t does keeps r steps_are calls_are repeats =
-      let own_later : Unwraps whole s → Unwraps later mid = λ own has. ap (λ (x : Sending). stream_of (record (wire_in mid) { sending = x })) keeps.sending ∙ own (repeats has) in
+      let own_later : OfSender whole s → OfSender later mid = λ own has. ap (λ (x : Sending). stream_of (record (wire_in mid) { sending = x })) keeps.sending ∙ own (repeats has) in
       record {
         later = r.later;
         sends = r.sends ∙ ap (λ (es : List SentSample). es ++ r.later) keeps.sends;
@@ -199,11 +232,11 @@ module _ {X F : Type 0} (hops_in : X → Hops) (Passes : Bool → ℕ → List �
       }
 
   -- a call of the session
-  called : (sent : ℕ) (m : Bool) (call : SessionStep) (later : List (ServingStep F)) (s mid t : Serving X) → DoesOne (serves m (steps.Call call)) s mid → Splits sent later mid t
+  called : (sent : ℕ) (m : Bool) (call : SessionStep) (later : List (ServingStep F)) (s mid t : Serving X) → Does (serves m (steps.Call call)) s mid → Splits sent later mid t
       → Splits sent (serves m (steps.Call call) ∷ later) s t
   called sent m call later s mid t does r =
       let same : Keeps (hops_in s.behind) (hops_in mid.behind) = keeps_same (hops_in s.behind) (hops_in mid.behind) (ap hops_in does.3) in
-      let own_later : Unwraps (serves m (steps.Call call) ∷ later) s → Unwraps later mid = λ own has. ap (λ (x : Sending). stream_of (record (wire_in mid) { sending = x })) same.sending ∙ own has in
+      let own_later : OfSender (serves m (steps.Call call) ∷ later) s → OfSender later mid = λ own has. ap (λ (x : Sending). stream_of (record (wire_in mid) { sending = x })) same.sending ∙ own has in
       record {
         later = r.later;
         sends = r.sends ∙ ap (λ (es : List SentSample). es ++ r.later) same.sends;
@@ -262,7 +295,7 @@ module _ {X F : Type 0} (hops_in : X → Hops) (Passes : Bool → ℕ → List �
 
       abbrev Repeated : Packet → Type 0
       Repeated packet =
-          (datagram : Vec ℕ) × IsAgain again packet datagram.items × IsSpelled (slice_get ds k) packet × ComesTo stream at datagram.items (PassesUnwrapped stream datagram.items (Passes m at.time)) s mid
+          (datagram : Vec ℕ) × IsAgain again packet datagram.items × Spelled (slice_get ds k) packet × ComesTo stream at datagram.items (PassesUnwrapped stream datagram.items (Passes m at.time)) s mid
 
       same_repeated : (more : IsMore ds (wire_in t).datagrams) → repeated_in stream again (slice_get (take sent (wire_in t).datagrams) k) ≡ repeated_in stream again (slice_get ds k)
       same_repeated more = ap (λ (xs : List (List ℕ)). repeated_in stream again (slice_get xs k)) (taken_of ds (wire_in t).datagrams sent count more)
@@ -281,10 +314,9 @@ module _ {X F : Type 0} (hops_in : X → Hops) (Passes : Bool → ℕ → List �
           (λ unwraps passed.
           let of : IsOf stream datagram = subst (λ (x : OriginalStream). IsOf x datagram) (unwraps refl) (of_at (stream_of (wire_in s)) ds k datagram own there) in
           let same : packet ≡ of.packet = same_Some packet of.packet (sym reads ∙ ap packet_read of.reads) in
-          let spelled : IsRtp datagram of.packet = subst (IsRtp datagram) same (subst (λ (o : Option (List ℕ)). IsSpelled o packet) there done.2) in
-          let bytes : passed.0 ≡ datagram =
-          same_bytes stream datagram of again again.first_number done.0.items passed.0 spelled (subst (λ (p : Packet). IsAgain again p done.0.items) same done.1) passed.1 in
-          behind.passes m k at.time datagram s.behind mid.behind there (subst (λ (d : List ℕ). Passes m at.time d s.behind mid.behind) bytes passed.2))
+          let spelled : Spelled (Some datagram) of.packet = subst (Spelled (Some datagram)) same (subst (λ (o : Option (List ℕ)). Spelled o packet) there done.2) in
+          let again_of : IsAgain again of.packet done.0.items = subst (λ (p : Packet). IsAgain again p done.0.items) same done.1 in
+          behind.passes m k at.time datagram s.behind mid.behind there (behind.unwraps m at.time datagram of again done.0.items passed.0 s.behind mid.behind spelled again_of passed.1 passed.2))
           rest (λ entries answer told. rw within refl) (λ entries c cs more step are. rw (same_repeated more ∙ is) ((done.0, done.1, step), are)) (λ has. refl)
 
       repeats : SendsItsOwn (wire_in s) → (fits : Bool) → fits_in stream again ≡ fits → (o : Option (List ℕ)) → slice_get ds k ≡ o
@@ -312,7 +344,7 @@ module _ {X F : Type 0} (hops_in : X → Hops) (Passes : Bool → ℕ → List �
 
     keeps_repeats : (m : Bool) (again : RetransmissionStream) (at : Moment) (s t : Serving X) (bytes : Option (List ℕ)) (o : Option Packet)
         → MatchOption o (t ≡ s) (λ packet.
-        (datagram : Vec ℕ) × IsAgain again packet datagram.items × IsSpelled bytes packet × ComesTo stream at datagram.items (PassesUnwrapped stream datagram.items (Passes m at.time)) s t)
+        (datagram : Vec ℕ) × IsAgain again packet datagram.items × Spelled bytes packet × ComesTo stream at datagram.items (PassesUnwrapped stream datagram.items (Passes m at.time)) s t)
         → Keeps (hops_in s.behind) (hops_in t.behind)
     keeps_repeats m again at s t bytes None same = keeps_same (hops_in s.behind) (hops_in t.behind) (ap (λ (x : Serving X). hops_in x.behind) same)
     keeps_repeats m again at s t bytes (Some packet) done = keeps_unwrapped done.3.0 m at.time done.0.items s.behind t.behind done.3.2
@@ -323,7 +355,7 @@ module _ {X F : Type 0} (hops_in : X → Hops) (Passes : Bool → ℕ → List �
     next_own : (s mid : Serving X) → Keeps (hops_in s.behind) (hops_in mid.behind) → SendsItsOwn (wire_in s) → SendsItsOwn (wire_in mid)
     next_own s mid keeps own = own_kept (hops_in s.behind) (hops_in mid.behind) keeps own
 
-    pub splits : (all_steps : List (ServingStep F)) (sent : ℕ) (s t : Serving X) → AllKeep all_steps → length (wire_in s).datagrams ≡ sent → SendsItsOwn (wire_in s) → Follow DoesOne all_steps s t
+    pub splits : (all_steps : List (ServingStep F)) (sent : ℕ) (s t : Serving X) → AllKeep all_steps → length (wire_in s).datagrams ≡ sent → SendsItsOwn (wire_in s) → Follow Does all_steps s t
         → Splits sent all_steps s t
     splits [] sent s t keep count own run = subst (λ (x : Serving X). Splits sent [] s x) (sym run) (nothing sent s)
     splits (unseen f ∷ later) sent s t keep count own run =
@@ -352,7 +384,7 @@ module _ {X F : Type 0} (hops_in : X → Hops) (Passes : Bool → ℕ → List �
         (slice_get (wire_in s).datagrams k) refl run.1
     splits (serves m (steps.Call call) ∷ later) sent s t keep count own run =
         let mid : Serving X = run.0 in
-        let does : DoesOne (serves m (steps.Call call)) s mid = run.1 in
+        let does : Does (serves m (steps.Call call)) s mid = run.1 in
         let keeps : Keeps (hops_in s.behind) (hops_in mid.behind) = keeps_same (hops_in s.behind) (hops_in mid.behind) (ap hops_in does.3) in
         called sent m call later s mid t does (splits later sent mid t keep (next_count sent s mid keeps count) (next_own s mid keeps own) run.2)
     splits (serves m (steps.Deliver j now) ∷ later) sent s t keep count own run =
@@ -381,7 +413,7 @@ module _ {X F : Type 0} (hops_in : X → Hops) (Passes : Bool → ℕ → List �
 
     -- A whole run, before which nothing was sent
     module _ (all_steps : List (ServingStep F)) (s t : Serving X) (keep : AllKeep all_steps) (no_datagrams : (wire_in s).datagrams ≡ []) (no_sends : (wire_in s).sends ≡ []) (no_answers : s.answers ≡ [])
-        (run : Follow DoesOne all_steps s t) where
+        (run : Follow Does all_steps s t) where
       pub parts : Splits 0 all_steps s t
       parts =
           splits all_steps 0 s t keep (ap (λ (ds : List (List ℕ)). length ds) no_datagrams) (subst (AllOf (stream_of (wire_in s))) (sym no_datagrams) tt) run
@@ -393,7 +425,7 @@ module _ {X F : Type 0} (hops_in : X → Hops) (Passes : Bool → ℕ → List �
       all_told = parts.told ∙ ap (λ (rs : List StepAnswer). rs ++ parts.gained) no_answers
 
       -- the run behind the session
-      pub follows : Unwraps all_steps s → Follow DoesIt (steps_behind seen_as stream samples 0 all_steps (wire_in t).sends t.answers) s.behind t.behind
+      pub follows : OfSender all_steps s → Follow DoesIt (steps_behind seen_as stream samples 0 all_steps (wire_in t).sends t.answers) s.behind t.behind
       follows own =
           subst (λ (es : List SentSample). Follow DoesIt (steps_behind seen_as stream samples 0 all_steps es t.answers) s.behind t.behind) (sym all_sends)
           (subst (λ (rs : List StepAnswer). Follow DoesIt (steps_behind seen_as stream samples 0 all_steps parts.later rs) s.behind t.behind) (sym all_told) (parts.follows own))
