@@ -7,7 +7,7 @@ use crate::forwarded::{BLOCKS, copies, popped_in};
 use crate::forwarded_again::{link_of_opus, opus_samples};
 use crate::forwarded_left_out::{close_up, is_left_out};
 use crate::served::{LEAVES, Plan, STREAM, session, taken_by};
-use crate::served_again::{OPUS, OPUS_AGAIN, at, opus_taken, session_of_opus};
+use crate::served_again::{OPUS, OPUS_AGAIN, at, now_of, opus_taken, session_of_opus};
 use crate::with_ids::{FIRST_IDS, frame_of, link_from, samples};
 use codec_payload::codec::NoBox;
 use codec_payload::forward::Forwarded;
@@ -83,10 +83,6 @@ impl LeavePlan {
         let whole = frames.filter(|(_, came)| came[0] && came[1]);
         whole.flat_map(|(index, _)| frame_of(index)).collect()
     }
-}
-
-fn now_of(block: usize) -> u64 {
-    100 + 10 * block as u64
 }
 
 fn plan_of(mut seed: u32) -> LeavePlan {
@@ -190,7 +186,7 @@ fn the_run_of_the_theorem_pops_the_other_frames() -> Result<(), Fail> {
     };
     let run = run_served_leaving_out(&mut link, &opus_samples()?, &steps_of_theorem())?;
     assert_eq!(opus_taken(&run.answers), [true, false, true, true]);
-    assert!(matches!(run.answers[1], StepAnswer::Polled(_)));
+    assert!(matches!(run.answers[1], StepAnswer::Polled(None)));
     let sends = &run.run.run.sends;
     assert_eq!(sends.len(), 3);
     assert!(
