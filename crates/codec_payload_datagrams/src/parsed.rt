@@ -35,10 +35,19 @@ impl<'a> ParsedDatagram<'a> {
     pub fn parse(bytes: &'a [u8]) -> ParsedDatagram<'a>
         ensures { result ≡ bytes.now }
     {
-        ParsedDatagram {
-            bytes,
-            is_rtcp: is_rtcp(bytes),
-            packet: RtpPacket::parse(bytes),
+        let is_rtcp = is_rtcp(bytes);
+        // Each value is made where it is returned: so a plain packet, as most of audio are, is not moved.
+        match RtpPacket::parse_plain(bytes) {
+            Some(packet) => ParsedDatagram {
+                bytes,
+                is_rtcp,
+                packet: Ok(packet),
+            },
+            None => ParsedDatagram {
+                bytes,
+                is_rtcp,
+                packet: RtpPacket::parse_parts(bytes),
+            },
         }
     }
 
