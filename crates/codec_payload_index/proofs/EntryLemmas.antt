@@ -7,7 +7,7 @@ use Rattle.std.specs.Prelude.{nat_lt}
 use Rattle.std.proofs.lemmas.Bool.Decides.{nat_tests}
 use Rattle.std.proofs.lemmas.List.{get_or_append_left, get_or_at, get_or-map, length-append, length-map}
 use Rattle.std.proofs.lemmas.List.Edits.{get_or-insert_above, get_or-insert_at, get_or-insert_below, get_or-remove_above, get_or-remove_below, length-insert, length-remove}
-use Rattle.codec_payload_index.specs.Ssrcs.{AreEntries, IsFirstFrom, IsListed, IsTold, Rises, key, key_of, lowered}
+use Rattle.codec_payload_index.specs.Ssrcs.{AreEntries, IsFirstFrom, IsListed, IsOnly, IsTold, Rises, key, key_of, lowered}
 use Rattle.codec_payload_index.specs.declared.ssrcs.Entry.{Entry}
 
 -- within a list the default does not matter
@@ -89,6 +89,26 @@ pub past_end : (ss : List ℕ) (es : List Entry) (ssrc from at : ℕ) → AreEnt
 past_end ss es ssrc from at are point past = λ k d later l same.
     let b = behind_of ss es ssrc from at k d (record { ssrc = 0; place = 0 }) are point later l same in
     absurd (omega (arith, b.behind, b.within, past))
+
+-- ---- the only place
+
+pub nowhere : (ssrc : ℕ) (ss : List ℕ) → IsFirstFrom 0 ssrc ss None → IsOnly ssrc ss None
+nowhere ssrc ss none = λ place first alone. none place 0 (omega arith) first.within first.has
+
+pub several : (ssrc p q : ℕ) (ss : List ℕ) → IsFirstFrom 0 ssrc ss (Some p) → IsFirstFrom (p + 1) ssrc ss (Some q) → IsOnly ssrc ss None
+several ssrc p q ss one two = λ place first alone. elim (cases_lt place q) [
+  | inl less ↦ alone q 0 (omega (arith, less)) two.within two.has
+  | inr more ↦ first.first p 0 (omega arith) (omega (arith, more, two.behind)) one.has
+]
+
+-- the search for the next place with the SSRC ends behind its first entry
+pub next_point : (es : List Entry) (ssrc at : ℕ) (x : Entry) → Rises es → at < length es → x ≡ get_or es at x → x.ssrc ≡ ssrc → IsPoint ssrc 0 at es → IsPoint ssrc (x.place + 1) (at + 1) es
+next_point es ssrc at x rise within is has point =
+    let keyed : (d : Entry) → key_of (get_or es at d) ≡ key_of x = λ d. ap key_of (same_there es at d x within ∙ sym is) in
+    record {
+      lower = λ k d less. omega (arith, never_falls es rise k at d (omega (arith, less)) within, keyed d, has);
+      behind = λ k d le l. omega (arith, rise at k d (omega (arith, le)) l, keyed d, has);
+    }
 
 -- ---- entries that are changed one after the other
 

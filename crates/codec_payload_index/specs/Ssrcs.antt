@@ -15,6 +15,11 @@ abbrev pub IsFirstFrom : ℕ → ℕ → List ℕ → Option ℕ → Type 0
 IsFirstFrom from ssrc ss None = AllWithin (λ s. s ≢ ssrc) ss from (length ss)
 IsFirstFrom from ssrc ss (Some place) = IsPlaceFrom from ssrc ss place
 
+-- the place that alone has the SSRC; or none, if no place or several have it
+abbrev pub IsOnly : ℕ → List ℕ → Option ℕ → Type 0
+IsOnly ssrc ss None = (place : ℕ) → IsFirstFrom 0 ssrc ss (Some place) → IsFirstFrom (place + 1) ssrc ss None → ⊥
+IsOnly ssrc ss (Some place) = IsFirstFrom 0 ssrc ss (Some place) × IsFirstFrom (place + 1) ssrc ss None
+
 -- SSRCs come first, then places
 abbrev pub key : ℕ → ℕ → ℕ
 key ssrc place = ssrc * 2 ^ 64 + place
