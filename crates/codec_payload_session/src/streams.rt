@@ -20,7 +20,7 @@ ghost use Rattle.codec_payload_session_stream.specs.Changes.{any_left_behind, co
 ghost use Rattle.codec_payload_session_stream.specs.Renegotiation.{StayOrEnd};
 ghost use Rattle.codec_payload_session_stream.specs.Units.{event_to, turn_to};
 ghost use Rattle.codec_payload_session_stream.specs.declared.stream.StreamState.{StreamState};
-ghost use Rattle.codec_payload_session.specs.Waking.{StepsPort};
+ghost use Rattle.codec_payload_session.specs.Waking.{IsOnlyOf, StepsPort};
 
 use crate::compound::take_packets;
 use codec_payload_base::wire::{Frequency, Ticks};
@@ -159,7 +159,7 @@ impl Streams {
             SortedPacket::Unknown => Ok(Arrival::Unknown),
             SortedPacket::Unassociated => Ok(Arrival::Unassociated),
             SortedPacket::Media(ssrc, format) => {
-                self.take_media(settings, (ssrc, format), now, datagram)
+                self.take_media(settings, ssrc, &format, now, datagram)
             }
             SortedPacket::Retransmission(ssrc, payload_type) => {
                 match self.place_of(ssrc, payload_type) {
@@ -175,9 +175,44 @@ impl Streams {
     }
 
     /// Passes a datagram of media to its stream, or begins one with it. If that stream is announced, the streams that the
-    /// sender left for it leave.
+    /// sender left for it leave. Most SSRCs have one stream: then the sender left none, and one search does.
     #[inline(always)]
     fn take_media(
+        &mut self,
+        settings: &SessionSettings,
+        ssrc: u32,
+        format: &Format,
+        now: Ticks,
+        datagram: &ParsedDatagram<'_>,
+    ) -> Result<Arrival, AllocError>
+        requires { can_begin settings.now format.now ≡ true }
+        ensures { TakesMedia settings.now ssrc format.now now datagram.now self.old result self.new }
+    {
+        self.ssrcs.approach(ssrc);
+        match self.only_place(ssrc, format.payload_type) {
+            Some(place) => self.feed(place, settings.probation, now, datagram),
+            None => self.take_other_media(settings, (ssrc, *format), now, datagram),
+        }
+    }
+
+    /// Returns the place of the stream with this SSRC and payload type, if no other stream has its SSRC.
+    #[inline(always)]
+    fn only_place(&self, ssrc: u32, payload_type: u8) -> Option<usize>
+        ensures { IfSome result (λ place. IsOnlyOf ssrc payload_type place self.now.streams) }
+    {
+        let Some(place) = self.ssrcs.find_only(ssrc) else {
+            return None;
+        };
+        if self.list[place].format.payload_type == payload_type {
+            Some(place)
+        } else {
+            None
+        }
+    }
+
+    /// Does what `take_media` does for the first datagram of a stream, or for one of several streams of an SSRC.
+    #[inline(never)]
+    fn take_other_media(
         &mut self,
         settings: &SessionSettings,
         of: (u32, Format),
@@ -187,7 +222,6 @@ impl Streams {
         requires { can_begin settings.now of.1 ≡ true }
         ensures { TakesMedia settings.now of.0 of.1 now datagram.now self.old result self.new }
     {
-        self.ssrcs.approach(of.0);
         let answer = self.feed_or_begin(settings, of, now, datagram);
         if answer.is_ok() {
             self.leave_behind(now.0, settings.bye_wait, of.0, &of.1);

@@ -7,6 +7,8 @@ use alloc::vec::Vec;
 
 /// Up to how many SSRCs a walk is faster than a search.
 const FEW: usize = 16;
+/// How many places the first hints have.
+const FIRST_HINTS: usize = 64;
 
 /// A list of SSRCs. It may have an SSRC at several places.
 #[derive(Debug)]
@@ -16,6 +18,9 @@ pub struct Ssrcs {
     entries: Vec<Entry>,
     /// The entry that searches inspect first.
     near: usize,
+    /// Where [`Ssrcs::approach`] last found the entries of an SSRC, at the place of its low bits: a power of two, or none. A hint
+    /// counts only if the entries there are those of the SSRC, so any number may stand here.
+    hints: Vec<u32>,
 }
 
 /// An SSRC, and a place of the list that has it.
@@ -32,6 +37,7 @@ impl Ssrcs {
             list: Vec::new(),
             entries: Vec::new(),
             near: 0,
+            hints: Vec::new(),
         }
     }
 
@@ -45,11 +51,22 @@ impl Ssrcs {
         }
     }
 
-    /// Remembers where the entries of this SSRC are. Until the next call, [`Ssrcs::find`] needs no search for it.
+    /// Returns the place that has this SSRC, if one place alone has it. `None`: no place has it, or several have it.
+    #[inline(always)]
+    pub fn find_only(&self, ssrc: u32) -> Option<usize> {
+        if self.list.len() <= FEW {
+            walk_only(&self.list, ssrc)
+        } else {
+            self.look_up_only(ssrc)
+        }
+    }
+
+    /// Remembers where the entries of this SSRC are. Until the next call, [`Ssrcs::find`] needs no search for it. Where the latest call
+    /// for the SSRC found them is inspected first.
     #[inline(always)]
     pub fn approach(&mut self, ssrc: u32) {
         if self.list.len() > FEW {
-            self.near = search(&self.entries, ssrc, 0);
+            self.near = seek(&self.entries, &mut self.hints, ssrc);
         }
     }
 
@@ -67,11 +84,32 @@ impl Ssrcs {
         }
     }
 
+    /// Finds the same place as [`Ssrcs::find_only`] by a search.
+    fn look_up_only(&self, ssrc: u32) -> Option<usize> {
+        let at = search_near(&self.entries, self.near, ssrc, 0);
+        if at >= self.entries.len() {
+            return None;
+        }
+        let entry = self.entries[at];
+        if entry.ssrc != ssrc {
+            return None;
+        }
+        let next = at + 1;
+        if next >= self.entries.len() {
+            return Some(entry.place);
+        }
+        if self.entries[next].ssrc == ssrc {
+            return None;
+        }
+        Some(entry.place)
+    }
+
     /// Adds an SSRC at the end.
     pub fn push(&mut self, ssrc: u32) -> Result<(), AllocError> {
         self.list.try_room(1)?;
         self.entries.try_room(1)?;
         let place = self.list.len();
+        widen(&mut self.hints, place);
         let at = search(&self.entries, ssrc, place);
         self.entries.insert(at, Entry { ssrc, place });
         self.list.push(ssrc);
@@ -98,6 +136,58 @@ fn walk(ssrcs: &[u32], ssrc: u32, from: usize) -> Option<usize> {
         place += 1;
     }
     None
+}
+
+/// Finds the place that alone has the SSRC by a step for each place.
+#[inline(always)]
+fn walk_only(ssrcs: &[u32], ssrc: u32) -> Option<usize> {
+    let Some(place) = walk(ssrcs, ssrc, 0) else {
+        return None;
+    };
+    match walk(ssrcs, ssrc, place + 1) {
+        None => Some(place),
+        Some(_) => None,
+    }
+}
+
+/// Returns how many entries come before this SSRC, or a number that does not matter if none has it. A hint that is wrong is replaced.
+#[inline(always)]
+fn seek(entries: &[Entry], hints: &mut Vec<u32>, ssrc: u32) -> usize {
+    let slot = ssrc as usize & hints.len().wrapping_sub(1);
+    if let Some(hint) = hints.get(slot) {
+        let near = *hint as usize;
+        if parts(entries, near, ssrc, 0) {
+            return near;
+        }
+    }
+    seek_anew(entries, hints, slot, ssrc)
+}
+
+/// Returns how many entries come before this SSRC, by a search, and keeps the number as the hint of this place.
+#[inline(never)]
+fn seek_anew(entries: &[Entry], hints: &mut Vec<u32>, slot: usize, ssrc: u32) -> usize {
+    let near = search(entries, ssrc, 0);
+    if let Some(hint) = hints.get_mut(slot) {
+        *hint = (near % 4_294_967_296) as u32;
+    }
+    near
+}
+
+/// Makes room for at least twice as many hints as there are SSRCs, if a walk would not do. If memory runs out, the hints stay as they
+/// are.
+fn widen(hints: &mut Vec<u32>, count: usize) {
+    let len = hints.len();
+    if count < FEW || count < len / 2 {
+        return;
+    }
+    let more = len.max(FIRST_HINTS);
+    if hints.try_room(more).is_ok() {
+        for _ in 0..more {
+            if hints.try_push(0).is_err() {
+                return;
+            }
+        }
+    }
 }
 
 /// Returns how many entries come before this SSRC and place.

@@ -18,10 +18,19 @@ impl<'a> ParsedDatagram<'a> {
     /// Reads a datagram. Any bytes are accepted.
     #[inline(always)]
     pub fn parse(bytes: &'a [u8]) -> ParsedDatagram<'a> {
-        ParsedDatagram {
-            bytes,
-            is_rtcp: is_rtcp(bytes),
-            packet: RtpPacket::parse(bytes),
+        let is_rtcp = is_rtcp(bytes);
+        // Each value is made where it is returned: so a plain packet, as most of audio are, is not moved.
+        match RtpPacket::parse_plain(bytes) {
+            Some(packet) => ParsedDatagram {
+                bytes,
+                is_rtcp,
+                packet: Ok(packet),
+            },
+            None => ParsedDatagram {
+                bytes,
+                is_rtcp,
+                packet: RtpPacket::parse_parts(bytes),
+            },
         }
     }
 

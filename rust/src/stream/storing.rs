@@ -40,18 +40,24 @@ impl StreamKinds {
     /// Returns the same header, packed. Allocates only for rare values.
     #[inline(always)]
     fn packed_header_for(&self, header: &PacketHeader<'_>) -> Result<PackedHeader, AllocError> {
-        let plain = PackedHeader::plain(
-            Pt::new_with_value(self.payload_type),
-            header.sequence_number,
-            header.timestamp,
-            header.ssrc,
-            header.marker,
-        );
         if header.extension.is_none() {
-            return Ok(plain);
+            return Ok(PackedHeader::plain(
+                Pt::new_with_value(self.payload_type),
+                header.sequence_number,
+                header.timestamp,
+                header.ssrc,
+                header.marker,
+            ));
         }
         match self.ids.small_values(&header.extension) {
-            Some(values) => Ok(plain.with_small_values(
+            Some(values) => Ok(PackedHeader::plain(
+                Pt::new_with_value(self.payload_type),
+                header.sequence_number,
+                header.timestamp,
+                header.ssrc,
+                header.marker,
+            )
+            .with_small_values(
                 values.video_orientation,
                 values.video_content_type,
                 values.audio_level,

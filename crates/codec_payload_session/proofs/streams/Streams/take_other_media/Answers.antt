@@ -2,7 +2,7 @@ use Rattle.std.proofs.Common.{rules, subst}
 use Rattle.std.specs.List.{position}
 use Rattle.codec_payload_session.specs.Arrivals.{BeginsOrFeeds, Port}
 use Rattle.codec_payload_session_stream.specs.Streams.{is_of}
-use Rattle.codec_payload_session.proofs.streams.Streams.take_media.Goals as goal
+use Rattle.codec_payload_session.proofs.streams.Streams.take_other_media.Goals as goal
 
 pub returns-else-is_ok : goal.returns-else-is_ok
 returns-else-is_ok c = record {
