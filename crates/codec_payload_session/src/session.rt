@@ -345,7 +345,7 @@ impl Session {
     pub fn end(&mut self, now: Ticks, ssrc: u32)
         ensures { self.new ≡ ends_of ssrc now.0 self.old }
     {
-        self.streams.leave(Who::Of(ssrc), Ending::Told, now.0);
+        self.streams.leave(Who::Of(ssrc), Ending::ByCall, now.0);
     }
 
     /// Ends all streams, announced or not. From now on no stream begins.

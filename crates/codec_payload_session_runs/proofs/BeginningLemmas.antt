@@ -540,9 +540,9 @@ stays (calls.Receive now micros datagram) answer a b probation s t is room none 
 stays (calls.Poll now) answer a b probation s t is room none got has =
     polls s.telephone.waiting a b now s got.0 t (ap (λ (r : StepAnswer). is_end_of a b r) (sym got.1) ∙ none) got.2 has
 stays (calls.End now ssrc) answer a b probation s t is room none got has =
-    subst (λ (z : Session). HasWaiting a b z.port.streams) (sym got.1) (has_kept a b s.port.streams _ (all_left_kept (λ own. ssrc == own) endings.Told now.0 s.port.streams) has)
+    subst (λ (z : Session). HasWaiting a b z.port.streams) (sym got.1) (has_kept a b s.port.streams _ (all_left_kept (λ own. ssrc == own) endings.ByCall now.0 s.port.streams) has)
 stays (calls.Finish now) answer a b probation s t is room none got has =
-    subst (λ (z : Session). HasWaiting a b z.port.streams) (sym got.1) (has_kept a b s.port.streams _ (all_left_kept everyone endings.Told now.0 s.port.streams) has)
+    subst (λ (z : Session). HasWaiting a b z.port.streams) (sym got.1) (has_kept a b s.port.streams _ (all_left_kept everyone endings.ByCall now.0 s.port.streams) has)
 stays (calls.SetWaitLimits ssrc payload_type limits) answer a b probation s t is room none got has =
     subst (λ (z : Session). HasWaiting a b z.port.streams) (sym got.1)
     (has_kept a b s.port.streams _ (all_maps (waiting_if ssrc payload_type limits) s.port.streams (λ x. same_kept x (waiting_if ssrc payload_type limits x) (waited_same (is_of ssrc payload_type x) limits x))) has)

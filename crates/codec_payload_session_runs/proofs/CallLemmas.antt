@@ -411,13 +411,13 @@ reported_evolves given now idle event is_new room ss ts other silent got =
 abbrev plain_call : SessionStep → StepAnswer → Call
 plain_call step answer = record { step = step; answer = answer }
 
-pub end_evolves : (given : SessionSettings) (now : Ticks) (ssrc : ℕ) (who : ℕ → Bool) (ss : List StreamState) → Evolves given (plain_call (calls.End now ssrc) answers.Done) ss (map (left_if who endings.Told now.0) ss)
+pub end_evolves : (given : SessionSettings) (now : Ticks) (ssrc : ℕ) (who : ℕ → Bool) (ss : List StreamState) → Evolves given (plain_call (calls.End now ssrc) answers.Done) ss (map (left_if who endings.ByCall now.0) ss)
 end_evolves given now ssrc who ss =
-    left_evolves given (plain_call (calls.End now ssrc) answers.Done) who endings.Told now.0 ss ss (evolves_same given (plain_call (calls.End now ssrc) answers.Done) ss (λ s t. refl) (λ s t. refl))
+    left_evolves given (plain_call (calls.End now ssrc) answers.Done) who endings.ByCall now.0 ss ss (evolves_same given (plain_call (calls.End now ssrc) answers.Done) ss (λ s t. refl) (λ s t. refl))
 
-pub finish_evolves : (given : SessionSettings) (now : Ticks) (who : ℕ → Bool) (ss : List StreamState) → Evolves given (plain_call (calls.Finish now) answers.Done) ss (map (left_if who endings.Told now.0) ss)
+pub finish_evolves : (given : SessionSettings) (now : Ticks) (who : ℕ → Bool) (ss : List StreamState) → Evolves given (plain_call (calls.Finish now) answers.Done) ss (map (left_if who endings.ByCall now.0) ss)
 finish_evolves given now who ss =
-    left_evolves given (plain_call (calls.Finish now) answers.Done) who endings.Told now.0 ss ss (evolves_same given (plain_call (calls.Finish now) answers.Done) ss (λ s t. refl) (λ s t. refl))
+    left_evolves given (plain_call (calls.Finish now) answers.Done) who endings.ByCall now.0 ss ss (evolves_same given (plain_call (calls.Finish now) answers.Done) ss (λ s t. refl) (λ s t. refl))
 
 waiting_goes : (ssrc payload_type : ℕ) (limits : WaitLimits) (b : Bool) (s : StreamState) → is_of ssrc payload_type s ≡ b → Goes (plain_call (calls.SetWaitLimits ssrc payload_type limits) answers.Done) s (waiting_when b limits s)
 waiting_goes ssrc payload_type limits false s is = silent_goes (plain_call (calls.SetWaitLimits ssrc payload_type limits) answers.Done) s refl refl

@@ -573,10 +573,10 @@ abbrev plain : SessionStep → StepAnswer → Call
 plain step answer = record { step = step; answer = answer }
 
 left_all : (who : ℕ → Bool) (at : ℕ) (g : SessionSettings) (cs : List Call) (c : Call) (ss : List StreamState) → GivesNone c
-    → ((s : StreamState) → who s.ssrc ≡ true → (front : List Call) → IsCause g.idle_timeout endings.Told s.ssrc s.format.payload_type front c)
-    → AllJustified g cs ss → AllJustified g (cs ++ c ∷ []) (left_where who endings.Told at ss)
+    → ((s : StreamState) → who s.ssrc ≡ true → (front : List Call) → IsCause g.idle_timeout endings.ByCall s.ssrc s.format.payload_type front c)
+    → AllJustified g cs ss → AllJustified g (cs ++ c ∷ []) (left_where who endings.ByCall at ss)
 left_all who at g cs c ss none cause js =
-    all_left (λ (s : StreamState). who s.ssrc) endings.Told at g cs c ss cause (all_more g cs c ss ss js (all_silent g c ss none))
+    all_left (λ (s : StreamState). who s.ssrc) endings.ByCall at g cs c ss cause (all_more g cs c ss ss js (all_silent g c ss none))
 
 pub waited_same : (b : Bool) (limits : WaitLimits) (s : StreamState) → Same s (waiting_when b limits s)
 waited_same true limits s = record { ssrc_is = refl; format = refl; last = refl; stage = refl; accepted = refl }

@@ -282,7 +282,7 @@ impl Session {
 
     /// Ends the streams of this SSRC: polls return the units that are complete, and then `Ended`.
     pub fn end(&mut self, now: Ticks, ssrc: u32) {
-        self.streams.leave(Who::Of(ssrc), Ending::Told, now.0);
+        self.streams.leave(Who::Of(ssrc), Ending::ByCall, now.0);
     }
 
     /// Ends all streams, announced or not. From now on no stream begins.

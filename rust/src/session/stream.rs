@@ -36,7 +36,7 @@ pub enum Ending {
     /// No datagram arrived for the idle timeout.
     Timeout,
     /// The caller ended it.
-    Told,
+    ByCall,
     /// Its sender continues in another format under the same SSRC, or its format is gone ([`Session::set_formats`]).
     ///
     /// [`Session::set_formats`]: crate::session::sessions::Session::set_formats
