@@ -17,7 +17,7 @@ ghost use Rattle.codec_payload_session.specs.Pairs.{Pairs};
 ghost use Rattle.codec_payload_session_stream.specs.Pairs.{with_pair, without_pair};
 ghost use Rattle.codec_payload_session_stream.specs.Units.{HasUnit, event_to};
 
-use crate::association::{add_pair, take_in};
+use crate::association::{add_pair, receive_or_associate};
 use crate::former::former;
 use crate::reporter::report_deadline;
 use crate::streams::{Streams, Who};
@@ -207,7 +207,7 @@ impl Session {
         ensures { Associates now datagram.now self.old result self.new }
     {
         let noted = self.telephone.note(&self.settings, datagram)?;
-        let answer = take_in(&mut self.settings, &mut self.streams, now, datagram);
+        let answer = receive_or_associate(&mut self.settings, &mut self.streams, now, datagram);
         self.telephone.settle(noted, &answer);
         self.counts.count(&answer);
         answer

@@ -9,7 +9,7 @@ use crate::jitter::jitter_buffer::WaitLimits;
 use crate::memory::AllocError;
 use crate::rtcp::items::ReportBlock;
 pub use crate::session::arrival::Arrival;
-use crate::session::association::{add_pair, take_in};
+use crate::session::association::{add_pair, receive_or_associate};
 use crate::session::checks::SessionSettingsError;
 pub use crate::session::events::Event;
 use crate::session::events::{report_event, transport_event, with_unit};
@@ -170,7 +170,7 @@ impl Session {
         datagram: &ParsedDatagram<'_>,
     ) -> Result<Arrival, AllocError> {
         let noted = self.telephone.note(&self.settings, datagram)?;
-        let answer = take_in(&mut self.settings, &mut self.streams, now, datagram);
+        let answer = receive_or_associate(&mut self.settings, &mut self.streams, now, datagram);
         self.telephone.settle(noted, &answer);
         self.counts.count(&answer);
         answer
