@@ -133,8 +133,8 @@ everyone ssrc = true
 abbrev pub ends_all : ℕ → Session → Session
 ends_all at s = record s { port = record s.port { streams = left_where everyone endings.ByCall at s.port.streams; finished = true } }
 
-abbrev pub told_counts : ArrivalCounts → ℕ → ℕ → SessionCounts
-told_counts c ended telephone_dropped = record {
+abbrev pub counts_with : ArrivalCounts → ℕ → ℕ → SessionCounts
+counts_with c ended telephone_dropped = record {
   received = c.received;
   rtcp = c.rtcp;
   malformed = c.malformed;

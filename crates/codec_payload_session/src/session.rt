@@ -8,7 +8,7 @@ ghost use Rattle.codec_payload_session.specs.Accepting.{Accepts, time_for};
 ghost use Rattle.codec_payload_session.specs.Associations.{Associates};
 ghost use Rattle.codec_payload_session_formats.specs.Checks.{checked, fault_of};
 ghost use Rattle.codec_payload_session.specs.Idle.{IsIdle, held_in, next_of};
-ghost use Rattle.codec_payload_session.specs.Ports.{IsSum, MatchInfo, ReportsIf, counted, counted_if, ends_all, ends_of, former_among, made_of, names_among, no_counts, receiver_among, restarts_transport, taken_in, told_counts, waits_of};
+ghost use Rattle.codec_payload_session.specs.Ports.{IsSum, MatchInfo, ReportsIf, counted, counted_if, counts_with, ends_all, ends_of, former_among, made_of, names_among, no_counts, receiver_among, restarts_transport, taken_in, waits_of};
 ghost use Rattle.codec_payload_session_stream.specs.Reports.{block_among, clock_among};
 ghost use Rattle.codec_payload_session.specs.Polls.{Polls, SendsReport, SendsTransport, TurnsOrReports, TurnsOrSends};
 ghost use Rattle.codec_payload_session.specs.Renegotiation.{SetsFormats, with_formats};
@@ -575,7 +575,7 @@ impl Session {
 
     /// Returns the counters of datagrams by result.
     pub fn counts(&self) -> SessionCounts
-        ensures value { result ≡ told_counts self.now.counts self.now.port.ended self.now.telephone.dropped }
+        ensures value { result ≡ counts_with self.now.counts self.now.port.ended self.now.telephone.dropped }
         // Every datagram is accounted for.
         ensures accounted { IsSum result (taken_in self.now.port.streams) }
     {
