@@ -73,7 +73,7 @@ pub record ReceivesDatagram (micros : Option ℕ) (r : PortSession) (now : ℕ) 
 abbrev pub ending_number : Ending → ℕ
 ending_number endings.Bye = 0
 ending_number endings.Timeout = 1
-ending_number endings.Told = 2
+ending_number endings.ByCall = 2
 ending_number endings.Changed = 3
 
 -- the description of a unit, with its extended RTP time, and whether it is decodable and a keyframe

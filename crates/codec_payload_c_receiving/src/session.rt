@@ -164,7 +164,7 @@ pub(crate) fn number_of(why: Ending) -> u32
     match why {
         Ending::Bye => 0,
         Ending::Timeout => 1,
-        Ending::Told => 2,
+        Ending::ByCall => 2,
         Ending::Changed => 3,
     }
 }

@@ -339,13 +339,13 @@ follows_taken (Some told) now s step t got = ap (λ (x : StreamState). x.taken) 
 plays_taken : (now : Ticks) (idle : ℕ) (s : StreamState) (step : Step) (t : StreamState) → Plays now idle s step t → t.taken ≡ s.taken
 plays_taken now idle s step t got = follows_taken got.2.told now.0 (record got.0 { receiver = got.2.receiver }) step t got.2.follows ∙ drains_taken (end_of now.0 idle s) s got.0 got.1
 
-steps_by_taken : (b told : Bool) (now : Ticks) (idle : ℕ) (s : StreamState) (step : Step) (t : StreamState) → StepsBy b told now idle s step t → t.taken ≡ s.taken
-steps_by_taken true told now idle s step t got = ap (λ (x : StreamState). x.taken) got.1
+steps_by_taken : (b announced : Bool) (now : Ticks) (idle : ℕ) (s : StreamState) (step : Step) (t : StreamState) → StepsBy b announced now idle s step t → t.taken ≡ s.taken
+steps_by_taken true announced now idle s step t got = ap (λ (x : StreamState). x.taken) got.1
 steps_by_taken false false now idle s step t got = ap (λ (x : StreamState). x.taken) got.1
 steps_by_taken false true now idle s step t got = plays_taken now idle s step t got
 
 steps_taken : (now : Ticks) (idle : ℕ) (s : StreamState) (step : Step) (t : StreamState) → Steps now idle s step t → t.taken ≡ s.taken
-steps_taken now idle s step t got = steps_by_taken (is_probation s.stage) s.told now idle s step t got
+steps_taken now idle s step t got = steps_by_taken (is_probation s.stage) s.announced now idle s step t got
 
 quiet_taken : (now : Ticks) (idle : ℕ) (ss ts : List StreamState) → AreQuiet now idle ss ts → taken_in ts ≡ taken_in ss
 quiet_taken now idle [] [] got = refl

@@ -151,7 +151,7 @@ rests_quiet (stages.Draining why) now t u step drains none got = absurd (cc)
 -- what the step leaves
 record Rested (now : ℕ) (s t : StreamState) : Type 0 where
   receiver : t.receiver ≡ s.receiver
-  told_is : t.told ≡ s.told
+  announced_is : t.announced ≡ s.announced
   stage_is : t.stage ≡ s.stage
   last_is : t.last ≡ s.last
   drains : is_draining t.stage ≡ false
@@ -163,7 +163,7 @@ other_stage s t g same is = ap (λ (x : StreamState). x.stage) same ∙ is
 stayed : (now : ℕ) (s t : StreamState) → t ≡ s → is_draining s.stage ≡ false → (s.stage ≡ stages.Playing → ⊥) → Rested now s t
 stayed now s t same drains other = record {
   receiver = ap (λ (x : StreamState). x.receiver) same;
-  told_is = ap (λ (x : StreamState). x.told) same;
+  announced_is = ap (λ (x : StreamState). x.announced) same;
   stage_is = ap (λ (x : StreamState). x.stage) same;
   last_is = ap (λ (x : StreamState). x.last) same;
   drains = ap (λ (x : StreamState). is_draining x.stage) same ∙ drains;
@@ -173,7 +173,7 @@ stayed now s t same drains other = record {
 asked : (o : Option Asking) (now : ℕ) (s t : StreamState) → s.feedback ≡ o → s.stage ≡ stages.Playing → RequestsBy {U = Release} o now s steps.Nothing t → Rested now s t
 asked None now s t is plays got = record {
   receiver = ap (λ (x : StreamState). x.receiver) got.1;
-  told_is = ap (λ (x : StreamState). x.told) got.1;
+  announced_is = ap (λ (x : StreamState). x.announced) got.1;
   stage_is = ap (λ (x : StreamState). x.stage) got.1;
   last_is = ap (λ (x : StreamState). x.last) got.1;
   drains = ap (λ (x : StreamState). is_draining x.stage) got.1 ∙ ap is_draining plays;
@@ -181,7 +181,7 @@ asked None now s t is plays got = record {
 }
 asked (Some a) now s t is plays got = subst (λ (x : StreamState). Rested now s x) (sym got.after) (record {
   receiver = refl;
-  told_is = refl;
+  announced_is = refl;
   stage_is = refl;
   last_is = refl;
   drains = ap is_draining plays;
@@ -200,7 +200,7 @@ rested (stages.Draining why) now s t is got = let other : steps.Nothing ≡ step
 -- a stream that was asked: a pop without a unit, and then nothing
 record Asked (now : ℕ) (idle : ℕ) (s t : StreamState) : Type 0 where
   gated : PopsGated now s.receiver None t.receiver
-  told_is : t.told ≡ s.told
+  announced_is : t.announced ≡ s.announced
   stage_is : t.stage ≡ s.stage
   last_is : t.last ≡ s.last
   drains : is_draining t.stage ≡ false
@@ -224,7 +224,7 @@ drained None now idle s m t is drains pops =
     let it = followed first.told now.0 s t first.receiver first.pops first.follows in
     record {
       gated = subst (λ (x : Receiver). PopsGated now.0 s.receiver None x) (sym it.1.receiver) it.0;
-      told_is = it.1.told_is;
+      announced_is = it.1.announced_is;
       stage_is = it.1.stage_is;
       last_is = it.1.last_is;
       drains = it.1.drains;
@@ -239,15 +239,15 @@ drained (Some why) now idle s m t is drains pops =
 
 -- a stream in probation, or one that was asked
 abbrev Went : ℕ → ℕ → StreamState → StreamState → Type 0
-Went now idle s t = ((t ≡ s) × (is_probation s.stage ≡ true)) ⊎ (Asked now idle s t × (s.told ≡ true) × (is_probation s.stage ≡ false))
+Went now idle s t = ((t ≡ s) × (is_probation s.stage ≡ true)) ⊎ (Asked now idle s t × (s.announced ≡ true) × (is_probation s.stage ≡ false))
 
-went_by : (b told : Bool) (now : Ticks) (idle : ℕ) (s t : StreamState) → is_probation s.stage ≡ b → s.told ≡ told → StepsBy b told now idle s steps.Nothing t → Went now.0 idle s t
-went_by true told now idle s t is told_is got = inl (got.1, is)
-went_by false false now idle s t is told_is got = let other : steps.Nothing ≡ steps.Begun = got.0 in absurd (cc)
-went_by false true now idle s t is told_is got = inr (drained (end_of now.0 idle s) now idle s got.0 t refl got.1 got.2, told_is, is)
+went_by : (b announced : Bool) (now : Ticks) (idle : ℕ) (s t : StreamState) → is_probation s.stage ≡ b → s.announced ≡ announced → StepsBy b announced now idle s steps.Nothing t → Went now.0 idle s t
+went_by true announced now idle s t is announced_is got = inl (got.1, is)
+went_by false false now idle s t is announced_is got = let other : steps.Nothing ≡ steps.Begun = got.0 in absurd (cc)
+went_by false true now idle s t is announced_is got = inr (drained (end_of now.0 idle s) now idle s got.0 t refl got.1 got.2, announced_is, is)
 
 went : (now : Ticks) (idle : ℕ) (s t : StreamState) → Steps now idle s steps.Nothing t → Went now.0 idle s t
-went now idle s t got = went_by (is_probation s.stage) s.told now idle s t refl refl got
+went now idle s t got = went_by (is_probation s.stage) s.announced now idle s t refl refl got
 
 -- ---- the step after it
 
@@ -281,24 +281,24 @@ not_due (stages.Draining why) later idle last deadline known drains before = abs
 
 -- a stream that was asked, and is asked again
 record AskedAgain (later : ℕ) (idle : ℕ) (t : StreamState) : Type 0 where
-  told_is : t.told ≡ true
+  announced_is : t.announced ≡ true
   known : is_probation t.stage ≡ false
   drains : is_draining t.stage ≡ false
   goes_on : end_of later idle t ≡ None
   pops : PopsNothing later t.receiver.packets
   asks : t.stage ≡ stages.Playing → AsksNone t.feedback later t.last t.receiver
 
-asked_again : (now later idle : ℕ) (s t : StreamState) → Asked now idle s t → s.told ≡ true → is_probation s.stage ≡ false → length t.receiver.packets.buffer.held ≡ length s.receiver.packets.buffer.held
+asked_again : (now later idle : ℕ) (s t : StreamState) → Asked now idle s t → s.announced ≡ true → is_probation s.stage ≡ false → length t.receiver.packets.buffer.held ≡ length s.receiver.packets.buffer.held
     → now ≤ later → later < 2 ^ 64 → IsBefore (due_of idle t) later → AskedAgain later idle t
-asked_again now later idle s t it told known same after few before =
-    let told_is : t.told ≡ true = it.told_is ∙ told in
+asked_again now later idle s t it announced known same after few before =
+    let announced_is : t.announced ≡ true = it.announced_is ∙ announced in
     let known_after : is_probation t.stage ≡ false = ap is_probation it.stage_is ∙ known in
-    let due : IsBefore (due_by idle true (work_deadline t) t.last t.stage) later = subst (λ (b : Bool). IsBefore (due_by idle b (work_deadline t) t.last t.stage) later) told_is before in
+    let due : IsBefore (due_by idle true (work_deadline t) t.last t.stage) later = subst (λ (b : Bool). IsBefore (due_by idle b (work_deadline t) t.last t.stage) later) announced_is before in
     let work : IsBefore (work_deadline t) later = not_due t.stage later idle t.last (work_deadline t) known_after it.drains due in
     let both = earlier_both (deadline_of t.receiver.packets) (request_deadline t.stage t.feedback) later work in
     let end_is : end_by now idle t.last t.stage ≡ None = subst (λ (g : Stage). end_by now idle t.last g ≡ None) (sym it.stage_is) (subst (λ (n : ℕ). end_by now idle n s.stage ≡ None) (sym it.last_is) it.goes_on) in
     record {
-      told_is = told_is;
+      announced_is = announced_is;
       known = known_after;
       drains = it.drains;
       goes_on = not_ended t.stage now later idle t.last (work_deadline t) after few it.drains end_is due;
@@ -327,7 +327,7 @@ popped_quiet later idle t u step it pops =
 asked_quiet : (later : Ticks) (idle : ℕ) (t u : StreamState) (step : Step) → AskedAgain later.0 idle t → Steps later idle t step u → IsQuietStep step
 asked_quiet later idle t u step it got =
     let plays : Plays later idle t step u =
-    subst (λ (told : Bool). StepsBy false told later idle t step u) it.told_is (subst (λ (b : Bool). StepsBy b t.told later idle t step u) it.known got) in
+    subst (λ (announced : Bool). StepsBy false announced later idle t step u) it.announced_is (subst (λ (b : Bool). StepsBy b t.announced later idle t step u) it.known got) in
     let stays : plays.0 ≡ t = subst (λ (o : Option Ending). Drains o t plays.0) it.goes_on plays.1 in
     popped_quiet later idle t u step it (subst (λ (x : StreamState). Pops later x step u) stays plays.2)
 
@@ -335,7 +335,7 @@ stays_quiet : (now later : Ticks) (idle : ℕ) (s t u : StreamState) (step : Ste
     → now.0 ≤ later.0 → later.0 < 2 ^ 64 → IsBefore (due_of idle t) later.0 → Steps later idle t step u → IsQuietStep step
 stays_quiet now later idle s t u step (inl still) same after few before got =
     let probation : is_probation t.stage ≡ true = ap (λ (x : StreamState). is_probation x.stage) still.0 ∙ still.1 in
-    let nothing : StepsBy true t.told later idle t step u = subst (λ (b : Bool). StepsBy b t.told later idle t step u) probation got in
+    let nothing : StepsBy true t.announced later idle t step u = subst (λ (b : Bool). StepsBy b t.announced later idle t step u) probation got in
     nothing_quiet step nothing.0
 stays_quiet now later idle s t u step (inr it) same after few before got =
     asked_quiet later idle t u step (asked_again now.0 later.0 idle s t it.0 it.1 it.2 same after few before) got
@@ -346,9 +346,9 @@ went_few : (now idle : ℕ) (s t : StreamState) → Went now idle s t → length
 went_few now idle s t (inl still) = let same : length t.receiver.packets.buffer.held ≡ length s.receiver.packets.buffer.held = ap (λ (x : StreamState). length x.receiver.packets.buffer.held) still.0 in omega (arith, same)
 went_few now idle s t (inr it) = gated_few now s.receiver t.receiver None it.0.gated
 
-went_told : (now idle : ℕ) (s t : StreamState) → Went now idle s t → t.told ≡ s.told
-went_told now idle s t (inl still) = ap (λ (x : StreamState). x.told) still.0
-went_told now idle s t (inr it) = it.0.told_is
+went_announced : (now idle : ℕ) (s t : StreamState) → Went now idle s t → t.announced ≡ s.announced
+went_announced now idle s t (inl still) = ap (λ (x : StreamState). x.announced) still.0
+went_announced now idle s t (inr it) = it.0.announced_is
 
 quiet_few : (now : Ticks) (idle : ℕ) (ss ts : List StreamState) → AreQuiet now idle ss ts → held_in ts ≤ held_in ss
 quiet_few now idle [] [] got = omega arith
@@ -356,12 +356,12 @@ quiet_few now idle [] (t ∷ ts) got = absurd got
 quiet_few now idle (s ∷ ss) [] got = absurd got
 quiet_few now idle (s ∷ ss) (t ∷ ts) got = omega (arith, went_few now.0 idle s t (went now idle s t got.0), quiet_few now idle ss ts got.1)
 
-quiet_told : (now : Ticks) (idle : ℕ) (ss ts : List StreamState) → AreQuiet now idle ss ts → any_announced ts ≡ any_announced ss
-quiet_told now idle [] [] got = refl
-quiet_told now idle [] (t ∷ ts) got = absurd got
-quiet_told now idle (s ∷ ss) [] got = absurd got
-quiet_told now idle (s ∷ ss) (t ∷ ts) got =
-    ap (λ (b : Bool). b || any_announced ts) (went_told now.0 idle s t (went now idle s t got.0)) ∙ ap (λ (b : Bool). s.told || b) (quiet_told now idle ss ts got.1)
+quiet_announced : (now : Ticks) (idle : ℕ) (ss ts : List StreamState) → AreQuiet now idle ss ts → any_announced ts ≡ any_announced ss
+quiet_announced now idle [] [] got = refl
+quiet_announced now idle [] (t ∷ ts) got = absurd got
+quiet_announced now idle (s ∷ ss) [] got = absurd got
+quiet_announced now idle (s ∷ ss) (t ∷ ts) got =
+    ap (λ (b : Bool). b || any_announced ts) (went_announced now.0 idle s t (went now idle s t got.0)) ∙ ap (λ (b : Bool). s.announced || b) (quiet_announced now idle ss ts got.1)
 
 -- each of the streams that were asked is quiet at a later time
 one_quiet : (now later : Ticks) (idle : ℕ) (ss front rest : List StreamState) (t u : StreamState) (step : Step) → AreQuiet now idle ss (front ++ t ∷ rest) → held_in (front ++ t ∷ rest) ≡ held_in ss
@@ -478,7 +478,7 @@ none_waits q due is = ap (λ (ws : List TelephonePacket). if length ws == 0 then
 reports_none : (later : Ticks) (t u : Session) (port : Port) (answer : Option Event) → AreQuiet later t.settings.idle_timeout t.port.streams port.streams
     → IsBefore (report_deadline t.report_due t.port.streams) later.0 → SendsReport later.0 (record t { port = port }) answer u → IsNoEvent answer
 reports_none later t u port answer are before got =
-    let same : any_announced port.streams ≡ any_announced t.port.streams = quiet_told later t.settings.idle_timeout t.port.streams port.streams are in
+    let same : any_announced port.streams ≡ any_announced t.port.streams = quiet_announced later t.settings.idle_timeout t.port.streams port.streams are in
     let early_is : is_report_due later.0 t.report_due port.streams ≡ false = ap (λ (b : Bool). b && is_time later.0 t.report_due) same ∙ not_time (any_announced t.port.streams) later.0 t.report_due before in
     let none : got.packet ≡ None = early t.settings.feedback t.settings.tick_rate later.0 t.report_due port got.packet got.due got.port early_is got.reports in
     subst (λ (e : Option Event). IsNoEvent e) (sym (got.answers ∙ ap report_event none)) tt

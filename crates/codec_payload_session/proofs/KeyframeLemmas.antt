@@ -109,15 +109,15 @@ pops_some None a now s m t it plays is heard may drains pops =
     plays_some first.told a now.0 s t first.receiver it plays is heard may first.follows
 pops_some (Some why) a now s m t it plays is heard may drains pops = ends_some pops.told now.0 m t pops.receiver why (ap (λ (x : StreamState). x.stage) drains.2) pops.follows
 
-steps_some : (told : Bool) (a : Asking) (now : Ticks) (idle : ℕ) (s t : StreamState) → IsAsked a → s.stage ≡ stages.Playing → s.feedback ≡ Some a → is_heard now.0 s.last a ≡ true
-    → may_ask a now.0 ≡ true → StepsBy false told now idle s steps.Nothing t → ⊥
+steps_some : (announced : Bool) (a : Asking) (now : Ticks) (idle : ℕ) (s t : StreamState) → IsAsked a → s.stage ≡ stages.Playing → s.feedback ≡ Some a → is_heard now.0 s.last a ≡ true
+    → may_ask a now.0 ≡ true → StepsBy false announced now idle s steps.Nothing t → ⊥
 steps_some false a now idle s t it plays is heard may got = let no : steps.Nothing ≡ steps.Begun = got.0 in absurd (cc)
 steps_some true a now idle s t it plays is heard may got = pops_some (end_of now.0 idle s) a now s got.0 t it plays is heard may got.1 got.2
 
 step_some : (a : Asking) (now : Ticks) (idle : ℕ) (s t : StreamState) → IsAsked a → s.stage ≡ stages.Playing → s.feedback ≡ Some a → is_heard now.0 s.last a ≡ true → may_ask a now.0 ≡ true
     → Steps now idle s steps.Nothing t → ⊥
 step_some a now idle s t it plays is heard may got =
-    steps_some s.told a now idle s t it plays is heard may (subst (λ (b : Bool). StepsBy b s.told now idle s steps.Nothing t) (ap is_probation plays) got)
+    steps_some s.announced a now idle s t it plays is heard may (subst (λ (b : Bool). StepsBy b s.announced now idle s steps.Nothing t) (ap is_probation plays) got)
 
 -- the step of the stream at a place, if all streams were quiet
 record WasQuiet (now : Ticks) (idle : ℕ) (s : StreamState) : Type 0 where
@@ -156,7 +156,7 @@ due_at idle zero (x ∷ xs) s now there before =
     subst (λ (y : StreamState). IsBefore (due_of idle y) now) same (earlier_both (due_of idle x) (due_in idle xs) now before).0
 due_at idle (suc place) (x ∷ xs) s now there before = due_at idle place xs s now there (earlier_both (due_of idle x) (due_in idle xs) now before).1
 
-work_before : (told : Bool) (end work : Option ℕ) (idle last now : ℕ) → IsBefore (due_by idle told work last stages.Playing) now → IsBefore work now
+work_before : (announced : Bool) (end work : Option ℕ) (idle last now : ℕ) → IsBefore (due_by idle announced work last stages.Playing) now → IsBefore work now
 work_before false end work idle last now before = absurd (omega (arith, before))
 work_before true end work idle last now before = (earlier_both (time_after last idle) work now before).1
 
@@ -167,8 +167,8 @@ wanted_before a now it before =
 
 stream_before : (a : Asking) (idle : ℕ) (s : StreamState) (now : ℕ) → IsAsked a → s.stage ≡ stages.Playing → s.feedback ≡ Some a → IsBefore (due_of idle s) now → may_ask a now ≡ false
 stream_before a idle s now it plays is before =
-    let by_stage : IsBefore (due_by idle s.told (work_deadline s) s.last stages.Playing) now = subst (λ (g : Stage). IsBefore (due_by idle s.told (work_deadline s) s.last g) now) plays before in
-    let work : IsBefore (work_deadline s) now = work_before s.told None (work_deadline s) idle s.last now by_stage in
+    let by_stage : IsBefore (due_by idle s.announced (work_deadline s) s.last stages.Playing) now = subst (λ (g : Stage). IsBefore (due_by idle s.announced (work_deadline s) s.last g) now) plays before in
+    let work : IsBefore (work_deadline s) now = work_before s.announced None (work_deadline s) idle s.last now by_stage in
     let request : IsBefore (request_deadline s.stage s.feedback) now = (earlier_both (deadline_of s.receiver.packets) (request_deadline s.stage s.feedback) now work).1 in
     wanted_before a now it
     (subst (λ (o : Option Asking). IsBefore (request_deadline stages.Playing o) now) is (subst (λ (g : Stage). IsBefore (request_deadline g s.feedback) now) plays request))

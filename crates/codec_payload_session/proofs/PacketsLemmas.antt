@@ -99,8 +99,8 @@ follows_some (Some (Err e)) now r q s t step pops got = is_some_step step (steps
 pops_in : (now : Ticks) (s t : StreamState) (step : Step) → Pops now s step t → HasPacketsIn step
 pops_in now s t step got = follows_some got.told now.0 s.receiver got.receiver (record s { receiver = got.receiver }) t step got.pops got.follows
 
-steps_by_some : (b told : Bool) (now : Ticks) (idle : ℕ) (s t : StreamState) (step : Step) → StepsBy b told now idle s step t → HasPacketsIn step
-steps_by_some true told now idle s t step got = is_some_step step steps.Nothing got.0 tt
+steps_by_some : (b announced : Bool) (now : Ticks) (idle : ℕ) (s t : StreamState) (step : Step) → StepsBy b announced now idle s step t → HasPacketsIn step
+steps_by_some true announced now idle s t step got = is_some_step step steps.Nothing got.0 tt
 steps_by_some false false now idle s t step got = is_some_step step steps.Begun got.0 tt
 steps_by_some false true now idle s t step got = pops_in now got.0 t step got.2
 
@@ -119,7 +119,7 @@ turn_some : (now : Ticks) (idle : ℕ) (p q : Port) (event : Option Event) → T
 turn_some now idle p q None got = tt
 turn_some now idle p q (Some event) got =
     subst (λ (e : Option Event). HasUnit e) (sym got.tells)
-    (event_some got.stepped got.step (steps_by_some _ got.stream.told now idle got.stream got.stepped got.step got.steps))
+    (event_some got.stepped got.step (steps_by_some _ got.stream.announced now idle got.stream got.stepped got.step got.steps))
 
 report_some : (packet : Option (Result (Vec ℕ) AllocError)) (event : Option Event) → event ≡ report_event packet → HasUnit event
 report_some None event is = subst (λ (e : Option Event). HasUnit e) (sym is) tt

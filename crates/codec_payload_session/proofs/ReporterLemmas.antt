@@ -132,7 +132,7 @@ all_mixed is_new room ts whole i end made =
 -- ---- turns
 
 -- a report changes neither who is announced nor any SSRC
-same_if : (b is_new : Bool) (s : StreamState) → ((reported_if b is_new s).told ≡ s.told) × ((reported_if b is_new s).ssrc ≡ s.ssrc)
+same_if : (b is_new : Bool) (s : StreamState) → ((reported_if b is_new s).announced ≡ s.announced) × ((reported_if b is_new s).ssrc ≡ s.ssrc)
 same_if true is_new s = (refl, refl)
 same_if false is_new s = (refl, refl)
 
@@ -142,15 +142,15 @@ same_announced ssrc is_new room (s ∷ ss) =
     let b : Bool = is_chosen is_new room s ss in
     let it = same_if b is_new s in
     ap (λ (t : Bool). (t && ((reported_if b is_new s).ssrc == ssrc)) || has_announced ssrc (all_reported is_new (room_after b room) ss)) it.0
-    ∙ ap (λ (n : ℕ). (s.told && (n == ssrc)) || has_announced ssrc (all_reported is_new (room_after b room) ss)) it.1
-    ∙ ap (λ (t : Bool). (s.told && (s.ssrc == ssrc)) || t) (same_announced ssrc is_new (room_after b room) ss)
+    ∙ ap (λ (n : ℕ). (s.announced && (n == ssrc)) || has_announced ssrc (all_reported is_new (room_after b room) ss)) it.1
+    ∙ ap (λ (t : Bool). (s.announced && (s.ssrc == ssrc)) || t) (same_announced ssrc is_new (room_after b room) ss)
 
 same_reported : (b is_new : Bool) (room : ℕ) (s : StreamState) (ss : List StreamState) → is_reported (reported_if b is_new s) (all_reported is_new room ss) ≡ is_reported s ss
 same_reported b is_new room s ss =
     let it = same_if b is_new s in
     ap (λ (t : Bool). t && not (has_announced (reported_if b is_new s).ssrc (all_reported is_new room ss))) it.0
-    ∙ ap (λ (n : ℕ). s.told && not (has_announced n (all_reported is_new room ss))) it.1
-    ∙ ap (λ (t : Bool). s.told && not t) (same_announced s.ssrc is_new room ss)
+    ∙ ap (λ (n : ℕ). s.announced && not (has_announced n (all_reported is_new room ss))) it.1
+    ∙ ap (λ (t : Bool). s.announced && not t) (same_announced s.ssrc is_new room ss)
 
 -- a stream of this report is not due again in its round
 not_again : (reported : Bool) → (reported && (false || not true)) ≡ false

@@ -126,14 +126,14 @@ follows_ssrc : (o : Option _) (now : ℕ) (s : StreamState) (step : Step) (t : S
 follows_ssrc None now s step t got = rests_ssrc s.stage now s step t got
 follows_ssrc (Some told) now s step t got = ap (λ (x : StreamState). x.ssrc) got.1
 
-by_steps : (probing told : Bool) (now : Ticks) (idle : ℕ) (s : StreamState) (step : Step) (t : StreamState) → StepsBy probing told now idle s step t → t.ssrc ≡ s.ssrc
-by_steps true told now idle s step t got = ap (λ (x : StreamState). x.ssrc) got.1
+by_steps : (probing announced : Bool) (now : Ticks) (idle : ℕ) (s : StreamState) (step : Step) (t : StreamState) → StepsBy probing announced now idle s step t → t.ssrc ≡ s.ssrc
+by_steps true announced now idle s step t got = ap (λ (x : StreamState). x.ssrc) got.1
 by_steps false false now idle s step t got = ap (λ (x : StreamState). x.ssrc) got.1
 by_steps false true now idle s step t got =
     follows_ssrc got.2.told now.0 (record got.0 { receiver = got.2.receiver }) step t got.2.follows ∙ drains_ssrc (end_of now.0 idle s) s got.0 got.1
 
 pub steps_ssrc : (now : Ticks) (idle : ℕ) (s : StreamState) (step : Step) (t : StreamState) → Steps now idle s step t → t.ssrc ≡ s.ssrc
-steps_ssrc now idle s step t got = by_steps (is_probation s.stage) s.told now idle s step t got
+steps_ssrc now idle s step t got = by_steps (is_probation s.stage) s.announced now idle s step t got
 
 -- ---- a step of the list
 

@@ -106,7 +106,7 @@ Receives now bytes s answer t = ReceivesIt now bytes s answer t ⊎ LacksMemory 
 -- ---- calls
 
 abbrev pub ends_of : ℕ → ℕ → Session → Session
-ends_of ssrc at s = record s { port = record s.port { streams = left_where (λ own. ssrc == own) endings.Told at s.port.streams } }
+ends_of ssrc at s = record s { port = record s.port { streams = left_where (λ own. ssrc == own) endings.ByCall at s.port.streams } }
 
 abbrev pub waits_of : ℕ → ℕ → WaitLimits → Session → Session
 waits_of ssrc payload_type limits s = record s { port = record s.port { streams = waiting_where ssrc payload_type limits s.port.streams } }
@@ -131,10 +131,10 @@ abbrev pub everyone : ℕ → Bool
 everyone ssrc = true
 
 abbrev pub ends_all : ℕ → Session → Session
-ends_all at s = record s { port = record s.port { streams = left_where everyone endings.Told at s.port.streams; finished = true } }
+ends_all at s = record s { port = record s.port { streams = left_where everyone endings.ByCall at s.port.streams; finished = true } }
 
-abbrev pub told_counts : ArrivalCounts → ℕ → ℕ → SessionCounts
-told_counts c ended telephone_dropped = record {
+abbrev pub counts_with : ArrivalCounts → ℕ → ℕ → SessionCounts
+counts_with c ended telephone_dropped = record {
   received = c.received;
   rtcp = c.rtcp;
   malformed = c.malformed;

@@ -20,11 +20,11 @@ use Rattle.codec_payload_session_stream.specs.declared.stream.StreamState.{Strea
 -- a stream of the SSRC is announced
 abbrev pub has_announced : ℕ → List StreamState → Bool
 has_announced ssrc [] = false
-has_announced ssrc (s ∷ ss) = (s.told && (s.ssrc == ssrc)) || has_announced ssrc ss
+has_announced ssrc (s ∷ ss) = (s.announced && (s.ssrc == ssrc)) || has_announced ssrc ss
 
 -- the stream is announced, and no later announced stream has its SSRC
 abbrev pub is_reported : StreamState → List StreamState → Bool
-is_reported s later = s.told && not (has_announced s.ssrc later)
+is_reported s later = s.announced && not (has_announced s.ssrc later)
 
 abbrev pub is_first_reported : List StreamState → Bool
 is_first_reported [] = false
@@ -135,7 +135,7 @@ pub record IsReport (f : FeedbackSettings) (blocks : List ℕ) (bytes : List ℕ
 
 abbrev pub any_announced : List StreamState → Bool
 any_announced [] = false
-any_announced (s ∷ ss) = s.told || any_announced ss
+any_announced (s ∷ ss) = s.announced || any_announced ss
 
 abbrev pub is_time : ℕ → Option ℕ → Bool
 is_time now None = false

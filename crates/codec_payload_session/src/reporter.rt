@@ -168,7 +168,7 @@ fn any_announced(streams: &[StreamState]) -> bool
     ensures { result ≡ any_announced streams.now }
 {
     for stream in streams {
-        if stream.told {
+        if stream.announced {
             return true;
         }
     }
@@ -180,7 +180,7 @@ fn has_announced(streams: &[StreamState], ssrc: u32) -> bool
     ensures { result ≡ has_announced ssrc streams.now }
 {
     for stream in streams {
-        if stream.told && stream.ssrc == ssrc {
+        if stream.announced && stream.ssrc == ssrc {
             return true;
         }
     }
@@ -193,7 +193,7 @@ fn is_reported(streams: &[StreamState], place: usize) -> bool
     ensures { result ≡ is_first_reported (drop place streams.now) }
 {
     let stream = &streams[place];
-    stream.told && !has_announced(&streams[place + 1..], stream.ssrc)
+    stream.announced && !has_announced(&streams[place + 1..], stream.ssrc)
 }
 
 /// Returns whether the stream at this place is due: it is reported, and this round had no block about it.

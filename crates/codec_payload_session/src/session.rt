@@ -8,7 +8,7 @@ ghost use Rattle.codec_payload_session.specs.Accepting.{Accepts, time_for};
 ghost use Rattle.codec_payload_session.specs.Associations.{Associates};
 ghost use Rattle.codec_payload_session_formats.specs.Checks.{checked, fault_of};
 ghost use Rattle.codec_payload_session.specs.Idle.{IsIdle, held_in, next_of};
-ghost use Rattle.codec_payload_session.specs.Ports.{IsSum, MatchInfo, ReportsIf, counted, counted_if, ends_all, ends_of, former_among, made_of, names_among, no_counts, receiver_among, restarts_transport, taken_in, told_counts, waits_of};
+ghost use Rattle.codec_payload_session.specs.Ports.{IsSum, MatchInfo, ReportsIf, counted, counted_if, counts_with, ends_all, ends_of, former_among, made_of, names_among, no_counts, receiver_among, restarts_transport, taken_in, waits_of};
 ghost use Rattle.codec_payload_session_stream.specs.Reports.{block_among, clock_among};
 ghost use Rattle.codec_payload_session.specs.Polls.{Polls, SendsReport, SendsTransport, TurnsOrReports, TurnsOrSends};
 ghost use Rattle.codec_payload_session.specs.Renegotiation.{SetsFormats, with_formats};
@@ -17,7 +17,7 @@ ghost use Rattle.codec_payload_session.specs.Pairs.{Pairs};
 ghost use Rattle.codec_payload_session_stream.specs.Pairs.{with_pair, without_pair};
 ghost use Rattle.codec_payload_session_stream.specs.Units.{HasUnit, event_to};
 
-use crate::association::{add_pair, take_in};
+use crate::association::{add_pair, receive_or_associate};
 use crate::former::former;
 use crate::reporter::report_deadline;
 use crate::streams::{Streams, Who};
@@ -207,7 +207,7 @@ impl Session {
         ensures { Associates now datagram.now self.old result self.new }
     {
         let noted = self.telephone.note(&self.settings, datagram)?;
-        let answer = take_in(&mut self.settings, &mut self.streams, now, datagram);
+        let answer = receive_or_associate(&mut self.settings, &mut self.streams, now, datagram);
         self.telephone.settle(noted, &answer);
         self.counts.count(&answer);
         answer
@@ -345,7 +345,7 @@ impl Session {
     pub fn end(&mut self, now: Ticks, ssrc: u32)
         ensures { self.new ≡ ends_of ssrc now.0 self.old }
     {
-        self.streams.leave(Who::Of(ssrc), Ending::Told, now.0);
+        self.streams.leave(Who::Of(ssrc), Ending::ByCall, now.0);
     }
 
     /// Ends all streams, announced or not. From now on no stream begins.
@@ -575,7 +575,7 @@ impl Session {
 
     /// Returns the counters of datagrams by result.
     pub fn counts(&self) -> SessionCounts
-        ensures value { result ≡ told_counts self.now.counts self.now.port.ended self.now.telephone.dropped }
+        ensures value { result ≡ counts_with self.now.counts self.now.port.ended self.now.telephone.dropped }
         // Every datagram is accounted for.
         ensures accounted { IsSum result (taken_in self.now.port.streams) }
     {

@@ -593,11 +593,11 @@ impl Streams {
 
     /// Ends all streams at that time, and refuses new ones from now on.
     pub(crate) fn finish(&mut self, at: u64)
-        ensures { self.new ≡ record self.old { streams = left_where everyone endings.Told at self.old.streams; finished = true } }
+        ensures { self.new ≡ record self.old { streams = left_where everyone endings.ByCall at self.old.streams; finished = true } }
     {
         self.finished = true;
         self.waking.forget();
-        leave(&mut self.list, Who::All, Ending::Told, at);
+        leave(&mut self.list, Who::All, Ending::ByCall, at);
     }
 }
 

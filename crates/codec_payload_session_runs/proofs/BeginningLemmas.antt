@@ -440,11 +440,11 @@ told_is (events.Report packet) f ssrc payload_type is = absurd (cc)
 told_is (events.TransportFeedback packet) f ssrc payload_type is = absurd (cc)
 
 -- the stream with the event, and those after it
-kept_waiting : (a b : ℕ) (told after : Bool) (e : Event) (x y : StreamState) (kept : List StreamState → List StreamState) (rest : List StreamState) → Kind told after x.ssrc x.format.payload_type (Some e) kept y
+kept_waiting : (a b : ℕ) (announced after : Bool) (e : Event) (x y : StreamState) (kept : List StreamState → List StreamState) (rest : List StreamState) → Kind announced after x.ssrc x.format.payload_type (Some e) kept y
     → ends_it a b (Some e) ≡ false → Kept x y → HasWaiting a b (x ∷ rest) → HasWaiting a b (kept rest)
-kept_waiting a b told after e x y kept rest (inl stays) none goes has = subst (λ (ss : List StreamState). HasWaiting a b ss) (sym (stays.1 rest)) (has_kept a b (x ∷ rest) (y ∷ rest) (goes, all_itself rest) has)
-kept_waiting a b told after e x y kept rest (inr ends) none goes (inr has) = subst (λ (ss : List StreamState). HasWaiting a b ss) (sym (ends.3 rest)) has
-kept_waiting a b told after e x y kept rest (inr ends) none goes (inl waits) =
+kept_waiting a b announced after e x y kept rest (inl stays) none goes has = subst (λ (ss : List StreamState). HasWaiting a b ss) (sym (stays.1 rest)) (has_kept a b (x ∷ rest) (y ∷ rest) (goes, all_itself rest) has)
+kept_waiting a b announced after e x y kept rest (inr ends) none goes (inr has) = subst (λ (ss : List StreamState). HasWaiting a b ss) (sym (ends.3 rest)) has
+kept_waiting a b announced after e x y kept rest (inr ends) none goes (inl waits) =
     let is : e ≡ events.Ended x.ssrc x.format.payload_type ends.0 = told_is e (events.Ended x.ssrc x.format.payload_type ends.0) x.ssrc x.format.payload_type ends.2 in
     let no : false ≡ true = sym none ∙ ap (λ (f : Event). ends_it a b (Some f)) is ∙ waits.0 in
     absurd (cc)
@@ -457,16 +457,16 @@ takes_turn (Some e) a b now idle p q none got has =
     let s = steps_stepped now idle x got.step y got.steps in
     let asked = steps_asked now idle x got.step y got.steps in
     let goes : Kept x y = record { ssrc_is = asked.ssrc_is; format = asked.format; some = λ one. omega (arith, one, asked.accepted) } in
-    let kind : Kind x.told y.told x.ssrc x.format.payload_type (Some e) (λ (zs : List StreamState). kept_after got.step y zs) y =
-    subst (λ (o : Option Event). Kind x.told y.told x.ssrc x.format.payload_type o (λ (zs : List StreamState). kept_after got.step y zs) y) (sym got.tells) s.kind in
+    let kind : Kind x.announced y.announced x.ssrc x.format.payload_type (Some e) (λ (zs : List StreamState). kept_after got.step y zs) y =
+    subst (λ (o : Option Event). Kind x.announced y.announced x.ssrc x.format.payload_type o (λ (zs : List StreamState). kept_after got.step y zs) y) (sym got.tells) s.kind in
     subst (λ (o : Port). HasWaiting a b o.streams) (sym got.left) (by_part kind goes (has_parts a b got.front (x ∷ got.rest) (subst (λ (ss : List StreamState). HasWaiting a b ss) got.there has)))
   where
-    by_part : Kind got.stream.told got.stepped.told got.stream.ssrc got.stream.format.payload_type (Some e) (λ (zs : List StreamState). kept_after got.step got.stepped zs) got.stepped → Kept got.stream got.stepped
+    by_part : Kind got.stream.announced got.stepped.announced got.stream.ssrc got.stream.format.payload_type (Some e) (λ (zs : List StreamState). kept_after got.step got.stepped zs) got.stepped → Kept got.stream got.stepped
         → HasWaiting a b got.front ⊎ HasWaiting a b (got.stream ∷ got.rest) → HasWaiting a b (got.quiet ++ kept_after got.step got.stepped got.rest)
     by_part kind goes (inl front) = has_front a b got.quiet (kept_after got.step got.stepped got.rest) (has_kept a b got.front got.quiet (quiet_kept now idle got.front got.quiet got.are_quiet) front)
     by_part kind goes (inr back) =
         has_back a b got.quiet (kept_after got.step got.stepped got.rest)
-        (kept_waiting a b got.stream.told got.stepped.told e got.stream got.stepped (λ (zs : List StreamState). kept_after got.step got.stepped zs) got.rest kind none goes back)
+        (kept_waiting a b got.stream.announced got.stepped.announced e got.stream got.stepped (λ (zs : List StreamState). kept_after got.step got.stepped zs) got.rest kind none goes back)
 
 reported_kept : (is_new : Bool) (room : ℕ) (ss : List StreamState) → AllKept ss (all_reported is_new room ss)
 reported_kept is_new room [] = tt
@@ -540,9 +540,9 @@ stays (calls.Receive now micros datagram) answer a b probation s t is room none 
 stays (calls.Poll now) answer a b probation s t is room none got has =
     polls s.telephone.waiting a b now s got.0 t (ap (λ (r : StepAnswer). is_end_of a b r) (sym got.1) ∙ none) got.2 has
 stays (calls.End now ssrc) answer a b probation s t is room none got has =
-    subst (λ (z : Session). HasWaiting a b z.port.streams) (sym got.1) (has_kept a b s.port.streams _ (all_left_kept (λ own. ssrc == own) endings.Told now.0 s.port.streams) has)
+    subst (λ (z : Session). HasWaiting a b z.port.streams) (sym got.1) (has_kept a b s.port.streams _ (all_left_kept (λ own. ssrc == own) endings.ByCall now.0 s.port.streams) has)
 stays (calls.Finish now) answer a b probation s t is room none got has =
-    subst (λ (z : Session). HasWaiting a b z.port.streams) (sym got.1) (has_kept a b s.port.streams _ (all_left_kept everyone endings.Told now.0 s.port.streams) has)
+    subst (λ (z : Session). HasWaiting a b z.port.streams) (sym got.1) (has_kept a b s.port.streams _ (all_left_kept everyone endings.ByCall now.0 s.port.streams) has)
 stays (calls.SetWaitLimits ssrc payload_type limits) answer a b probation s t is room none got has =
     subst (λ (z : Session). HasWaiting a b z.port.streams) (sym got.1)
     (has_kept a b s.port.streams _ (all_maps (waiting_if ssrc payload_type limits) s.port.streams (λ x. same_kept x (waiting_if ssrc payload_type limits x) (waited_same (is_of ssrc payload_type x) limits x))) has)

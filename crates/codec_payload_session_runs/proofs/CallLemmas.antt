@@ -89,9 +89,9 @@ feeds_if_evolve given (Some place) arrival settings now micros datagram p answer
 
 -- ---- receive: a stream begins, and may replace one in probation
 
-untold_by : (told : Bool) (x : StreamState) → x.told ≡ told → IsKnown x → is_probation x.stage ≡ true → x.told ≡ false
-untold_by true x is known probation = let no : is_probation x.stage ≡ false = known is in absurd (cc)
-untold_by false x is known probation = is
+unannounced_by : (announced : Bool) (x : StreamState) → x.announced ≡ announced → IsKnown x → is_probation x.stage ≡ true → x.announced ≡ false
+unannounced_by true x is known probation = let no : is_probation x.stage ≡ false = known is in absurd (cc)
+unannounced_by false x is known probation = is
 
 abbrev all_but : ℕ → List StreamState → List (Option StreamState)
 all_but i [] = []
@@ -101,7 +101,7 @@ all_but (suc i) (x ∷ xs) = Some x ∷ all_but i xs
 all_but_fates : (c : Call) (i : ℕ) (xs : List StreamState) (d : StreamState) → IsSilent c → GoAll c xs xs → AreKnown xs → i < length xs → on_probation (get_or xs i d) ≡ true → AreFates c xs (all_but i xs)
 all_but_fates c i [] d silent go known within is = tt
 all_but_fates c zero (x ∷ xs) d silent go known within is =
-    (inl (record { told = untold_by x.told x refl known.0 is; tells = silent x.ssrc x.format.payload_type }), all_fates c xs xs go.1)
+    (inl (record { announced = unannounced_by x.announced x refl known.0 is; tells = silent x.ssrc x.format.payload_type }), all_fates c xs xs go.1)
 all_but_fates c (suc i) (x ∷ xs) d silent go known within is = (go.0, all_but_fates c i xs d silent go.1 known.1 (omega arith) is)
 
 all_but_present : (i : ℕ) (xs ys : List StreamState) → i < length xs → remove (xs ++ ys) i ≡ present (all_but i xs) ++ ys
@@ -155,7 +155,7 @@ begins_evolve settings ssrc f now micros datagram p answer q none known got =
       fresh = x;
       begins = subst₂ (λ (s : ℕ) (g : Format). Begins settings s g x) (sym ssrc_is) (sym format) got.begins;
       goes = goes;
-      untold = goes.tells ∙ got.begins.told;
+      unannounced = goes.tells ∙ got.begins.announced;
       starts = subst₂ (λ (s : ℕ) (g : Format). StartsWithDatagram s g.payload_type (c ∷ [])) (sym ssrc_is) (sym format)
           (now, datagram.items, got.told, sym (given_is false now datagram.items ssrc f.payload_type got.told answer got.answers));
       absent = subst₂ (λ (s : ℕ) (g : Format). IsAbsent s g.payload_type p.streams) (sym ssrc_is) (sym format) absent;
@@ -199,7 +199,7 @@ media_evolves settings ssrc f now micros datagram p answer q apart known got =
 -- ---- receive: RTCP
 
 noted_keeps : (now : Ticks) (ps : List Packet) (s : StreamState) → Keeps s (noted now ps s)
-noted_keeps now ps s = record { ssrc_is = refl; format = refl; told = refl; receiver = refl; stage = λ is. is }
+noted_keeps now ps s = record { ssrc_is = refl; format = refl; announced = refl; receiver = refl; stage = λ is. is }
 
 noted_evolves : (given : SessionSettings) (c : Call) (now : Ticks) (o : Result (List Packet) RtcpError) (ss ts : List StreamState) → Evolves given c ss ts → Evolves given c ss (noted_in now o ts)
 noted_evolves given c now (Ok ps) ss ts got = evolves_map given c (noted now ps) ss ts (noted_keeps now ps) got
@@ -289,8 +289,8 @@ quiet_goes now event kept x y other s = record {
   known = s.known;
 }
   where
-    by_kind : Kind x.told y.told x.ssrc x.format.payload_type None kept y → AreOfOne x.told (events_by x.ssrc x.format.payload_type event) y.told
-    by_kind (inl stays) = subst (λ (es : List Event). AreOfOne x.told es y.told) (sym other.0) stays.0
+    by_kind : Kind x.announced y.announced x.ssrc x.format.payload_type None kept y → AreOfOne x.announced (events_by x.ssrc x.format.payload_type event) y.announced
+    by_kind (inl stays) = subst (λ (es : List Event). AreOfOne x.announced es y.announced) (sym other.0) stays.0
     by_kind (inr ends) = let none : [] ≡ events.Ended x.ssrc x.format.payload_type ends.0 ∷ [] = ends.2 in absurd (cc)
 
 quiet_go : (now : Ticks) (idle : ℕ) (event : Option Event) (xs ys : List StreamState) → ((x : StreamState) → IsOther now event x) → AreQuiet now idle xs ys → GoAll (poll_of now event) xs ys
@@ -364,11 +364,11 @@ fate_of now event kept x y s = by_kind s.kind
     has : HasPart (poll_of now (Some event)) x y
     has = record { ssrc_is = s.ssrc_is; format = s.format; part = s.part; alone = s.alone; is_part = record { made = s.made x.ssrc x.format.payload_type (Some event); one_pop = s.one_pop; one_end = s.one_end; pair_first = polled_first x.ssrc x.format.payload_type now (Some event) s.part (s.made x.ssrc x.format.payload_type (Some event)); shows = s.shows } }
 
-    by_kind : Kind x.told y.told x.ssrc x.format.payload_type (Some event) kept y
+    by_kind : Kind x.announced y.announced x.ssrc x.format.payload_type (Some event) kept y
         → (f : Option StreamState) × IsFate (poll_of now (Some event)) x f × ((rest : List StreamState) → kept rest ≡ present (f ∷ all_stay rest))
     by_kind (inl stays) =
         (Some y, record { has = has; tells = stays.0; known = s.known }, λ rest. stays.1 rest ∙ ap (λ (zs : List StreamState). y ∷ zs) (sym (present_all rest)))
-    by_kind (inr ends) = (None, inr (record { after = y; why = ends.0; has = has; told = ends.1; tells = ends.2 }), λ rest. ends.3 rest ∙ sym (present_all rest))
+    by_kind (inr ends) = (None, inr (record { after = y; why = ends.0; has = has; announced = ends.1; tells = ends.2 }), λ rest. ends.3 rest ∙ sym (present_all rest))
 
 pub tells_evolve : (given : SessionSettings) (now : Ticks) (idle : ℕ) (p : Port) (event : Event) (q : Port) → AreApart p.streams → TakesTurn now idle p (Some event) q
     → Evolves given (poll_of now (Some event)) p.streams q.streams
@@ -411,13 +411,13 @@ reported_evolves given now idle event is_new room ss ts other silent got =
 abbrev plain_call : SessionStep → StepAnswer → Call
 plain_call step answer = record { step = step; answer = answer }
 
-pub end_evolves : (given : SessionSettings) (now : Ticks) (ssrc : ℕ) (who : ℕ → Bool) (ss : List StreamState) → Evolves given (plain_call (calls.End now ssrc) answers.Done) ss (map (left_if who endings.Told now.0) ss)
+pub end_evolves : (given : SessionSettings) (now : Ticks) (ssrc : ℕ) (who : ℕ → Bool) (ss : List StreamState) → Evolves given (plain_call (calls.End now ssrc) answers.Done) ss (map (left_if who endings.ByCall now.0) ss)
 end_evolves given now ssrc who ss =
-    left_evolves given (plain_call (calls.End now ssrc) answers.Done) who endings.Told now.0 ss ss (evolves_same given (plain_call (calls.End now ssrc) answers.Done) ss (λ s t. refl) (λ s t. refl))
+    left_evolves given (plain_call (calls.End now ssrc) answers.Done) who endings.ByCall now.0 ss ss (evolves_same given (plain_call (calls.End now ssrc) answers.Done) ss (λ s t. refl) (λ s t. refl))
 
-pub finish_evolves : (given : SessionSettings) (now : Ticks) (who : ℕ → Bool) (ss : List StreamState) → Evolves given (plain_call (calls.Finish now) answers.Done) ss (map (left_if who endings.Told now.0) ss)
+pub finish_evolves : (given : SessionSettings) (now : Ticks) (who : ℕ → Bool) (ss : List StreamState) → Evolves given (plain_call (calls.Finish now) answers.Done) ss (map (left_if who endings.ByCall now.0) ss)
 finish_evolves given now who ss =
-    left_evolves given (plain_call (calls.Finish now) answers.Done) who endings.Told now.0 ss ss (evolves_same given (plain_call (calls.Finish now) answers.Done) ss (λ s t. refl) (λ s t. refl))
+    left_evolves given (plain_call (calls.Finish now) answers.Done) who endings.ByCall now.0 ss ss (evolves_same given (plain_call (calls.Finish now) answers.Done) ss (λ s t. refl) (λ s t. refl))
 
 waiting_goes : (ssrc payload_type : ℕ) (limits : WaitLimits) (b : Bool) (s : StreamState) → is_of ssrc payload_type s ≡ b → Goes (plain_call (calls.SetWaitLimits ssrc payload_type limits) answers.Done) s (waiting_when b limits s)
 waiting_goes ssrc payload_type limits false s is = silent_goes (plain_call (calls.SetWaitLimits ssrc payload_type limits) answers.Done) s refl refl
@@ -456,7 +456,7 @@ paired_goes c ssrc named true s is about silent nothing = record {
     alone = ((paired_when true named s).receiver, refl, refl);
     is_part = record { made = (about s (shown_in s.ssrc s.format.payload_type c) is, tt); one_pop = omega arith; one_end = omega arith; pair_first = tt; shows = sym nothing };
   };
-  tells = subst (λ (es : List Event). AreOfOne s.told es s.told) (sym silent) refl;
+  tells = subst (λ (es : List Event). AreOfOne s.announced es s.announced) (sym silent) refl;
   known = λ known. known;
 }
 

@@ -12,7 +12,7 @@ use Rattle.codec_payload_session.specs.Arrivals.{Port, has_ssrc}
 use Rattle.codec_payload_session.specs.Accepting.{Accepts, noted_in, time_for}
 use Rattle.codec_payload_session.specs.Associations.{AssociatesBy, pair_at}
 use Rattle.codec_payload_session.specs.Polls.{GoesOn, PollsAfter, SendsAfter, TurnsOrReports}
-use Rattle.codec_payload_session.specs.Ports.{IsSum, Receives, Session, counted as counted_as, new_session, told_counts}
+use Rattle.codec_payload_session.specs.Ports.{IsSum, Receives, Session, counted as counted_as, counts_with, new_session}
 use Rattle.codec_payload_session_formats.specs.declared.formats.SessionSettings.{SessionSettings}
 use Rattle.codec_payload_session_formats.specs.declared.formats.SsrcPair.{SsrcPair}
 use Rattle.codec_payload_session_stream.specs.declared.arrival.Arrival.{Arrival}
@@ -260,7 +260,7 @@ tally_new : (settings : SessionSettings) → Tally [] (new_session settings)
 tally_new settings = record { received = refl; rtcp = refl; malformed = refl; unknown = refl; refused = refl; unassociated = refl; whole = refl }
 
 -- by what `counts` says of the session
-pub counted : (settings : SessionSettings) (cs : List Call) (t : Session) (c : SessionCounts) (held : ℕ) → Runs cs (new_session settings) t → c ≡ told_counts t.counts t.port.ended t.telephone.dropped → IsSum c held
+pub counted : (settings : SessionSettings) (cs : List Call) (t : Session) (c : SessionCounts) (held : ℕ) → Runs cs (new_session settings) t → c ≡ counts_with t.counts t.port.ended t.telephone.dropped → IsSum c held
     → Counts cs c held
 counted settings cs t c held run is sum =
     let got : Tally cs t = tally_later cs [] (new_session settings) t (tally_new settings) run in

@@ -441,10 +441,10 @@ quiet_moved g now event [] (t ∷ ts) quiet = absurd quiet
 quiet_moved g now event (s ∷ ss) [] quiet = absurd quiet
 quiet_moved g now event (s ∷ ss) (t ∷ ts) quiet = (asked_moved g now event s _ t (steps_asked now g.idle_timeout s _ t quiet.0), quiet_moved g now event ss ts quiet.1)
 
-kept_justified : (g : SessionSettings) (cs : List Call) (told after : Bool) (ssrc payload_type : ℕ) (event : Option Event) (kept : List StreamState → List StreamState) (y : StreamState) (rest : List StreamState)
-    → Kind told after ssrc payload_type event kept y → Justified g cs y → AllJustified g cs rest → AllJustified g cs (kept rest)
-kept_justified g cs told after ssrc payload_type event kept y rest (inl stays) j js = subst (λ (ss : List StreamState). AllJustified g cs ss) (sym (stays.1 rest)) (j, js)
-kept_justified g cs told after ssrc payload_type event kept y rest (inr ends) j js = subst (λ (ss : List StreamState). AllJustified g cs ss) (sym (ends.3 rest)) js
+kept_justified : (g : SessionSettings) (cs : List Call) (announced after : Bool) (ssrc payload_type : ℕ) (event : Option Event) (kept : List StreamState → List StreamState) (y : StreamState) (rest : List StreamState)
+    → Kind announced after ssrc payload_type event kept y → Justified g cs y → AllJustified g cs rest → AllJustified g cs (kept rest)
+kept_justified g cs announced after ssrc payload_type event kept y rest (inl stays) j js = subst (λ (ss : List StreamState). AllJustified g cs ss) (sym (stays.1 rest)) (j, js)
+kept_justified g cs announced after ssrc payload_type event kept y rest (inr ends) j js = subst (λ (ss : List StreamState). AllJustified g cs ss) (sym (ends.3 rest)) js
 
 takes_turn : (o : Option Event) (g : SessionSettings) (cs : List Call) (now : Ticks) (event : Option Event) (p q : Port) → AllJustified g cs p.streams → TakesTurn now g.idle_timeout p o q → AllJustified g (cs ++ poll_of now event ∷ []) q.streams
 takes_turn None g cs now event p q js got =
@@ -459,7 +459,7 @@ takes_turn (Some e) g cs now event p q js got =
     let rest : AllJustified g (cs ++ c ∷ []) got.rest = all_more g cs c got.rest got.rest parts.1.1 (all_silent g c got.rest (λ s t. refl)) in
     subst (λ (o : Port). AllJustified g (cs ++ c ∷ []) o.streams) (sym got.left)
     (justified_append g (cs ++ c ∷ []) got.quiet (kept_after got.step got.stepped got.rest) front
-    (kept_justified g (cs ++ c ∷ []) got.stream.told got.stepped.told got.stream.ssrc got.stream.format.payload_type (event_of got.stepped got.step) (λ (zs : List StreamState). kept_after got.step got.stepped zs) got.stepped got.rest
+    (kept_justified g (cs ++ c ∷ []) got.stream.announced got.stepped.announced got.stream.ssrc got.stream.format.payload_type (event_of got.stepped got.step) (λ (zs : List StreamState). kept_after got.step got.stepped zs) got.stepped got.rest
     (steps_stepped now g.idle_timeout got.stream got.step got.stepped got.steps).kind one rest))
 
 pub reported_same : (b is_new : Bool) (s : StreamState) → Same s (reported_if b is_new s)
@@ -573,10 +573,10 @@ abbrev plain : SessionStep → StepAnswer → Call
 plain step answer = record { step = step; answer = answer }
 
 left_all : (who : ℕ → Bool) (at : ℕ) (g : SessionSettings) (cs : List Call) (c : Call) (ss : List StreamState) → GivesNone c
-    → ((s : StreamState) → who s.ssrc ≡ true → (front : List Call) → IsCause g.idle_timeout endings.Told s.ssrc s.format.payload_type front c)
-    → AllJustified g cs ss → AllJustified g (cs ++ c ∷ []) (left_where who endings.Told at ss)
+    → ((s : StreamState) → who s.ssrc ≡ true → (front : List Call) → IsCause g.idle_timeout endings.ByCall s.ssrc s.format.payload_type front c)
+    → AllJustified g cs ss → AllJustified g (cs ++ c ∷ []) (left_where who endings.ByCall at ss)
 left_all who at g cs c ss none cause js =
-    all_left (λ (s : StreamState). who s.ssrc) endings.Told at g cs c ss cause (all_more g cs c ss ss js (all_silent g c ss none))
+    all_left (λ (s : StreamState). who s.ssrc) endings.ByCall at g cs c ss cause (all_more g cs c ss ss js (all_silent g c ss none))
 
 pub waited_same : (b : Bool) (limits : WaitLimits) (s : StreamState) → Same s (waiting_when b limits s)
 waited_same true limits s = record { ssrc_is = refl; format = refl; last = refl; stage = refl; accepted = refl }

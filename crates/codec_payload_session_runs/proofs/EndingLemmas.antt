@@ -170,14 +170,14 @@ still_asked now idle s answer own t u is same stays stage ended =
       started = λ was. ap (λ (st : Stage). is_probation st) stage ∙ was;
     })
 
-by_asked : (b told : Bool) (now : Ticks) (idle : ℕ) (s : StreamState) (answer : Step) (t : StreamState) → StepsBy b told now idle s answer t → Asked now.0 idle s answer t
-by_asked true told now idle s answer t got = still_asked now.0 idle s answer _ t s got.0 got.1 (here s) refl (λ why is. not_end _ is.1 is.2 why refl is.3)
+by_asked : (b announced : Bool) (now : Ticks) (idle : ℕ) (s : StreamState) (answer : Step) (t : StreamState) → StepsBy b announced now idle s answer t → Asked now.0 idle s answer t
+by_asked true announced now idle s answer t got = still_asked now.0 idle s answer _ t s got.0 got.1 (here s) refl (λ why is. not_end _ is.1 is.2 why refl is.3)
 by_asked false false now idle s answer t got =
-    still_asked now.0 idle s answer _ t (record s { told = true }) got.0 got.1 (record { ssrc_is = refl; format = refl; last = refl; accepted = refl }) refl (λ why is. not_end _ is.1 is.2 why refl is.3)
+    still_asked now.0 idle s answer _ t (record s { announced = true }) got.0 got.1 (record { ssrc_is = refl; format = refl; last = refl; accepted = refl }) refl (λ why is. not_end _ is.1 is.2 why refl is.3)
 by_asked false true now idle s answer t got = plays_asked now idle s answer t got
 
 pub steps_asked : (now : Ticks) (idle : ℕ) (s : StreamState) (answer : Step) (t : StreamState) → Steps now idle s answer t → Asked now.0 idle s answer t
-steps_asked now idle s answer t got = by_asked (is_probation s.stage) s.told now idle s answer t got
+steps_asked now idle s answer t got = by_asked (is_probation s.stage) s.announced now idle s answer t got
 
 -- ---- streams whose end has a cause
 

@@ -86,12 +86,12 @@ pub record Ends (c : Call) (x : StreamState) : Type 0 where
   pub after : StreamState
   pub why : Ending
   pub has : HasPart c x after
-  pub told : x.told ≡ true
+  pub announced : x.announced ≡ true
   pub tells : events_in x.ssrc x.format.payload_type c.answer ≡ events.Ended x.ssrc x.format.payload_type why ∷ []
 
 -- a stream that was not announced is removed without an event
 pub record IsReplaced (c : Call) (x : StreamState) : Type 0 where
-  pub told : x.told ≡ false
+  pub announced : x.announced ≡ false
   pub tells : events_in x.ssrc x.format.payload_type c.answer ≡ []
 
 abbrev pub IsFate : Call → StreamState → Option StreamState → Type 0
@@ -114,7 +114,7 @@ pub record BeginsNow (settings : SessionSettings) (c : Call) (ss : List StreamSt
   pub fresh : StreamState
   pub begins : Begins settings y.ssrc y.format fresh
   pub goes : Goes c fresh y
-  pub untold : y.told ≡ false
+  pub unannounced : y.announced ≡ false
   pub starts : StartsWithDatagram y.ssrc y.format.payload_type (c ∷ [])
   pub absent : IsAbsent y.ssrc y.format.payload_type ss
 
@@ -218,7 +218,7 @@ fresh_map settings c g ss (y ∷ []) keeps are =
       fresh = are.fresh;
       begins = subst₂ (λ (s : ℕ) (f : Format). Begins settings s f are.fresh) (sym k.ssrc_is) (sym k.format) are.begins;
       goes = keeps_after c are.fresh y (g y) are.goes k;
-      untold = k.told ∙ are.untold;
+      unannounced = k.announced ∙ are.unannounced;
       starts = subst₂ (λ (s : ℕ) (f : Format). StartsWithDatagram s f.payload_type (c ∷ [])) (sym k.ssrc_is) (sym k.format) are.starts;
       absent = subst₂ (λ (s : ℕ) (f : Format). IsAbsent s f.payload_type ss) (sym k.ssrc_is) (sym k.format) are.absent;
     }
@@ -280,45 +280,45 @@ known_fates c (x ∷ xs) (None ∷ fs) are known = known_fates c xs fs are.1 kno
 
 -- ---- events in order
 
-fresh_untold : (settings : SessionSettings) (c : Call) (ssrc payload_type : ℕ) (ss fresh : List StreamState) → AreFresh settings c ss fresh → is_announced ssrc payload_type fresh ≡ false
-fresh_untold settings c ssrc payload_type ss [] are = refl
-fresh_untold settings c ssrc payload_type ss (y ∷ []) are = by_test (is_of ssrc payload_type y) refl
+fresh_unannounced : (settings : SessionSettings) (c : Call) (ssrc payload_type : ℕ) (ss fresh : List StreamState) → AreFresh settings c ss fresh → is_announced ssrc payload_type fresh ≡ false
+fresh_unannounced settings c ssrc payload_type ss [] are = refl
+fresh_unannounced settings c ssrc payload_type ss (y ∷ []) are = by_test (is_of ssrc payload_type y) refl
   where
     by_test : (b : Bool) → is_of ssrc payload_type y ≡ b → is_announced ssrc payload_type (y ∷ []) ≡ false
-    by_test true is = rw is are.untold
+    by_test true is = rw is are.unannounced
     by_test false is = rw is refl
-fresh_untold settings c ssrc payload_type ss (y ∷ z ∷ zs) are = absurd are
+fresh_unannounced settings c ssrc payload_type ss (y ∷ z ∷ zs) are = absurd are
 
 announced_none : (ssrc payload_type : ℕ) (ss fresh : List StreamState) → IsAbsent ssrc payload_type ss → is_announced ssrc payload_type fresh ≡ false → is_announced ssrc payload_type (ss ++ fresh) ≡ false
-announced_none ssrc payload_type [] fresh absent untold = untold
-announced_none ssrc payload_type (s ∷ ss) fresh absent untold = let e : is_of ssrc payload_type s ≡ false = absent.0 in rw e (announced_none ssrc payload_type ss fresh absent.1 untold)
+announced_none ssrc payload_type [] fresh absent unannounced = unannounced
+announced_none ssrc payload_type (s ∷ ss) fresh absent unannounced = let e : is_of ssrc payload_type s ≡ false = absent.0 in rw e (announced_none ssrc payload_type ss fresh absent.1 unannounced)
 
-away_in_order : (c : Call) (x : StreamState) (after : Bool) → after ≡ false → IsReplaced c x ⊎ Ends c x → AreInOrder x.told (events_in x.ssrc x.format.payload_type c.answer) after
-away_in_order c x after untold (inl replaced) = subst (λ (es : List Event). AreInOrder x.told es after) (sym replaced.tells) (untold ∙ sym replaced.told)
-away_in_order c x after untold (inr ends) = subst (λ (es : List Event). AreInOrder x.told es after) (sym ends.tells) (ends.told, untold)
+away_in_order : (c : Call) (x : StreamState) (after : Bool) → after ≡ false → IsReplaced c x ⊎ Ends c x → AreInOrder x.announced (events_in x.ssrc x.format.payload_type c.answer) after
+away_in_order c x after unannounced (inl replaced) = subst (λ (es : List Event). AreInOrder x.announced es after) (sym replaced.tells) (unannounced ∙ sym replaced.announced)
+away_in_order c x after unannounced (inr ends) = subst (λ (es : List Event). AreInOrder x.announced es after) (sym ends.tells) (ends.announced, unannounced)
 
 pub order_fates : (c : Call) (ssrc payload_type : ℕ) (ss : List StreamState) (fs : List (Option StreamState)) (fresh : List StreamState) → AreFates c ss fs → AreApart ss
     → is_announced ssrc payload_type fresh ≡ false → (IsAbsent ssrc payload_type ss → events_in ssrc payload_type c.answer ≡ [])
     → AreInOrder (is_announced ssrc payload_type ss) (events_in ssrc payload_type c.answer) (is_announced ssrc payload_type (present fs ++ fresh))
-order_fates c ssrc payload_type [] [] fresh are apart untold silent = subst (λ (es : List Event). AreInOrder false es (is_announced ssrc payload_type fresh)) (sym (silent tt)) untold
-order_fates c ssrc payload_type [] (f ∷ fs) fresh are apart untold silent = absurd are
-order_fates c ssrc payload_type (x ∷ xs) [] fresh are apart untold silent = absurd are
-order_fates c ssrc payload_type (x ∷ xs) (f ∷ fs) fresh are apart untold silent =
-    by_test (is_of ssrc payload_type x) refl (λ (is : is_of ssrc payload_type x ≡ false). order_fates c ssrc payload_type xs fs fresh are.1 apart.1 untold (λ absent. silent (is, absent)))
+order_fates c ssrc payload_type [] [] fresh are apart unannounced silent = subst (λ (es : List Event). AreInOrder false es (is_announced ssrc payload_type fresh)) (sym (silent tt)) unannounced
+order_fates c ssrc payload_type [] (f ∷ fs) fresh are apart unannounced silent = absurd are
+order_fates c ssrc payload_type (x ∷ xs) [] fresh are apart unannounced silent = absurd are
+order_fates c ssrc payload_type (x ∷ xs) (f ∷ fs) fresh are apart unannounced silent =
+    by_test (is_of ssrc payload_type x) refl (λ (is : is_of ssrc payload_type x ≡ false). order_fates c ssrc payload_type xs fs fresh are.1 apart.1 unannounced (λ absent. silent (is, absent)))
   where
     here : (g : Option StreamState) → IsFate c x g → is_of ssrc payload_type x ≡ true
-        → AreInOrder x.told (events_in ssrc payload_type c.answer) (is_announced ssrc payload_type (present (g ∷ fs) ++ fresh))
+        → AreInOrder x.announced (events_in ssrc payload_type c.answer) (is_announced ssrc payload_type (present (g ∷ fs) ++ fresh))
     here (Some y) fate is =
         let ids = of_is ssrc payload_type x is in
         let same : is_of ssrc payload_type y ≡ true = of_same ssrc payload_type x y fate.has.ssrc_is fate.has.format ∙ is in
-        let told : is_announced ssrc payload_type (y ∷ (present fs ++ fresh)) ≡ y.told = rw same refl in
-        subst (λ (b : Bool). AreInOrder x.told (events_in ssrc payload_type c.answer) b) (sym told)
-        (subst₂ (λ (a b : ℕ). AreInOrder x.told (events_in a b c.answer) y.told) ids.0 ids.1 (one_in_order (events_in x.ssrc x.format.payload_type c.answer) x.told y.told fate.tells))
+        let announced : is_announced ssrc payload_type (y ∷ (present fs ++ fresh)) ≡ y.announced = rw same refl in
+        subst (λ (b : Bool). AreInOrder x.announced (events_in ssrc payload_type c.answer) b) (sym announced)
+        (subst₂ (λ (a b : ℕ). AreInOrder x.announced (events_in a b c.answer) y.announced) ids.0 ids.1 (one_in_order (events_in x.ssrc x.format.payload_type c.answer) x.announced y.announced fate.tells))
     here None fate is =
         let ids = of_is ssrc payload_type x is in
         let absent : IsAbsent ssrc payload_type xs = subst₂ (λ (a b : ℕ). IsAbsent a b xs) ids.0 ids.1 apart.0 in
-        let none : is_announced ssrc payload_type (present fs ++ fresh) ≡ false = announced_none ssrc payload_type (present fs) fresh (absent_fates c ssrc payload_type xs fs are.1 absent) untold in
-        subst₂ (λ (a b : ℕ). AreInOrder x.told (events_in a b c.answer) (is_announced ssrc payload_type (present fs ++ fresh))) ids.0 ids.1
+        let none : is_announced ssrc payload_type (present fs ++ fresh) ≡ false = announced_none ssrc payload_type (present fs) fresh (absent_fates c ssrc payload_type xs fs are.1 absent) unannounced in
+        subst₂ (λ (a b : ℕ). AreInOrder x.announced (events_in a b c.answer) (is_announced ssrc payload_type (present fs ++ fresh))) ids.0 ids.1
         (away_in_order c x (is_announced ssrc payload_type (present fs ++ fresh)) none fate)
 
     there : (g : Option StreamState) → IsFate c x g → is_of ssrc payload_type x ≡ false
@@ -326,23 +326,23 @@ order_fates c ssrc payload_type (x ∷ xs) (f ∷ fs) fresh are apart untold sil
         → AreInOrder (is_announced ssrc payload_type xs) (events_in ssrc payload_type c.answer) (is_announced ssrc payload_type (present (g ∷ fs) ++ fresh))
     there (Some y) fate is later =
         let other : is_of ssrc payload_type y ≡ false = of_same ssrc payload_type x y fate.has.ssrc_is fate.has.format ∙ is in
-        let told : is_announced ssrc payload_type (y ∷ (present fs ++ fresh)) ≡ is_announced ssrc payload_type (present fs ++ fresh) = rw other refl in
-        subst (λ (b : Bool). AreInOrder (is_announced ssrc payload_type xs) (events_in ssrc payload_type c.answer) b) (sym told) later
+        let announced : is_announced ssrc payload_type (y ∷ (present fs ++ fresh)) ≡ is_announced ssrc payload_type (present fs ++ fresh) = rw other refl in
+        subst (λ (b : Bool). AreInOrder (is_announced ssrc payload_type xs) (events_in ssrc payload_type c.answer) b) (sym announced) later
     there None fate is later = later
 
     by_test : (b : Bool) → is_of ssrc payload_type x ≡ b
         → (is_of ssrc payload_type x ≡ false → AreInOrder (is_announced ssrc payload_type xs) (events_in ssrc payload_type c.answer) (is_announced ssrc payload_type (present fs ++ fresh)))
         → AreInOrder (is_announced ssrc payload_type (x ∷ xs)) (events_in ssrc payload_type c.answer) (is_announced ssrc payload_type (present (f ∷ fs) ++ fresh))
     by_test true is later =
-        let told : is_announced ssrc payload_type (x ∷ xs) ≡ x.told = rw is refl in
-        subst (λ (b : Bool). AreInOrder b (events_in ssrc payload_type c.answer) (is_announced ssrc payload_type (present (f ∷ fs) ++ fresh))) (sym told) (here f are.0 is)
+        let announced : is_announced ssrc payload_type (x ∷ xs) ≡ x.announced = rw is refl in
+        subst (λ (b : Bool). AreInOrder b (events_in ssrc payload_type c.answer) (is_announced ssrc payload_type (present (f ∷ fs) ++ fresh))) (sym announced) (here f are.0 is)
     by_test false is later =
-        let told : is_announced ssrc payload_type (x ∷ xs) ≡ is_announced ssrc payload_type xs = rw is refl in
-        subst (λ (b : Bool). AreInOrder b (events_in ssrc payload_type c.answer) (is_announced ssrc payload_type (present (f ∷ fs) ++ fresh))) (sym told)
+        let announced : is_announced ssrc payload_type (x ∷ xs) ≡ is_announced ssrc payload_type xs = rw is refl in
+        subst (λ (b : Bool). AreInOrder b (events_in ssrc payload_type c.answer) (is_announced ssrc payload_type (present (f ∷ fs) ++ fresh))) (sym announced)
         (there f are.0 is (later is))
 
 pub order_evolves : (settings : SessionSettings) (c : Call) (ssrc payload_type : ℕ) (ss ts : List StreamState) → AreApart ss → Evolves settings c ss ts
     → AreInOrder (is_announced ssrc payload_type ss) (events_in ssrc payload_type c.answer) (is_announced ssrc payload_type ts)
 order_evolves settings c ssrc payload_type ss ts apart got =
     subst (λ (zs : List StreamState). AreInOrder (is_announced ssrc payload_type ss) (events_in ssrc payload_type c.answer) (is_announced ssrc payload_type zs)) (sym got.left)
-    (order_fates c ssrc payload_type ss got.fates got.fresh got.are_fates apart (fresh_untold settings c ssrc payload_type ss got.fresh got.are_fresh) (got.silent ssrc payload_type))
+    (order_fates c ssrc payload_type ss got.fates got.fresh got.are_fates apart (fresh_unannounced settings c ssrc payload_type ss got.fresh got.are_fresh) (got.silent ssrc payload_type))

@@ -246,11 +246,11 @@ pub starts_more : (ssrc payload_type : ℕ) (cs ds : List Call) → StartsWithDa
 starts_more ssrc payload_type [] ds starts = absurd starts
 starts_more ssrc payload_type (c ∷ cs) ds starts = starts
 
-alone_more : (settings : SessionSettings) (cs : List Call) (c : Call) (x y : StreamState) → IsAlone settings cs x.ssrc x.format x.told x.receiver → HasPart c x y
-    → AreOfOne x.told (events_in x.ssrc x.format.payload_type c.answer) y.told → IsAlone settings (cs ++ c ∷ []) y.ssrc y.format y.told y.receiver
+alone_more : (settings : SessionSettings) (cs : List Call) (c : Call) (x y : StreamState) → IsAlone settings cs x.ssrc x.format x.announced x.receiver → HasPart c x y
+    → AreOfOne x.announced (events_in x.ssrc x.format.payload_type c.answer) y.announced → IsAlone settings (cs ++ c ∷ []) y.ssrc y.format y.announced y.receiver
 alone_more settings cs c x y got has tells =
     let projects : Projects x.ssrc x.format.payload_type (got.during ++ c ∷ []) (got.own ++ has.part) = projects_more x.ssrc x.format.payload_type got.during c got.own has.part got.projects has.is_part in
-    subst₂ (λ (s : ℕ) (f : Format). IsAlone settings (cs ++ c ∷ []) s f y.told y.receiver) (sym has.ssrc_is) (sym has.format)
+    subst₂ (λ (s : ℕ) (f : Format). IsAlone settings (cs ++ c ∷ []) s f y.announced y.receiver) (sym has.ssrc_is) (sym has.format)
     (record {
       before = got.before;
       during = got.during ++ c ∷ [];
@@ -266,20 +266,20 @@ alone_more settings cs c x y got has tells =
       alone = runs_append got.own has.part got.fresh.receiver x.receiver y.receiver got.alone has.alone;
       projects = projects;
       shows = projects_shown x.ssrc x.format.payload_type (got.during ++ c ∷ []) (got.own ++ has.part) projects;
-      tells = subst (λ (es : List Event). AreOfOne false es y.told) (sym (events_more x.ssrc x.format.payload_type got.during c))
-          (one_append (events_of x.ssrc x.format.payload_type got.during) (events_in x.ssrc x.format.payload_type c.answer) false x.told y.told got.tells tells);
+      tells = subst (λ (es : List Event). AreOfOne false es y.announced) (sym (events_more x.ssrc x.format.payload_type got.during c))
+          (one_append (events_of x.ssrc x.format.payload_type got.during) (events_in x.ssrc x.format.payload_type c.answer) false x.announced y.announced got.tells tells);
     })
 
 alone_fresh : (settings : SessionSettings) (cs : List Call) (c : Call) (reached : Session) (y : StreamState) → Runs cs (new_session settings) reached
-    → reached.settings ≡ record settings { pairs = reached.settings.pairs } → BeginsNow reached.settings c reached.port.streams y → IsAlone settings (cs ++ c ∷ []) y.ssrc y.format y.told y.receiver
+    → reached.settings ≡ record settings { pairs = reached.settings.pairs } → BeginsNow reached.settings c reached.port.streams y → IsAlone settings (cs ++ c ∷ []) y.ssrc y.format y.announced y.receiver
 alone_fresh settings cs c reached y run others got =
     let x : StreamState = got.fresh in
     let has : HasPart c x y = got.goes.has in
     let is_part : IsPart y.ssrc y.format.payload_type c has.part = subst₂ (λ (s : ℕ) (f : Format). IsPart s f.payload_type c has.part) (sym has.ssrc_is) (sym has.format) has.is_part in
     let projects : Projects y.ssrc y.format.payload_type (c ∷ []) has.part = (has.part, [], sym (append-nil has.part), is_part, refl) in
-    let untold : x.told ≡ false = got.begins.told in
-    let first : AreOfOne x.told (events_in y.ssrc y.format.payload_type c.answer) y.told =
-    subst₂ (λ (s : ℕ) (f : Format). AreOfOne x.told (events_in s f.payload_type c.answer) y.told) (sym has.ssrc_is) (sym has.format) got.goes.tells in
+    let unannounced : x.announced ≡ false = got.begins.announced in
+    let first : AreOfOne x.announced (events_in y.ssrc y.format.payload_type c.answer) y.announced =
+    subst₂ (λ (s : ℕ) (f : Format). AreOfOne x.announced (events_in s f.payload_type c.answer) y.announced) (sym has.ssrc_is) (sym has.format) got.goes.tells in
     record {
       before = cs;
       during = c ∷ [];
@@ -295,7 +295,7 @@ alone_fresh settings cs c reached y run others got =
       alone = has.alone;
       projects = projects;
       shows = projects_shown y.ssrc y.format.payload_type (c ∷ []) has.part projects;
-      tells = subst₂ (λ (b : Bool) (es : List Event). AreOfOne b es y.told) untold (sym (append-nil (events_in y.ssrc y.format.payload_type c.answer))) first;
+      tells = subst₂ (λ (b : Bool) (es : List Event). AreOfOne b es y.announced) unannounced (sym (append-nil (events_in y.ssrc y.format.payload_type c.answer))) first;
     }
 
 alone_fates : (settings : SessionSettings) (cs : List Call) (c : Call) (ss : List StreamState) (fs : List (Option StreamState)) → AreFates c ss fs → EachIsAlone settings cs ss → EachIsAlone settings (cs ++ c ∷ []) (present fs)
@@ -330,7 +330,7 @@ fresh_keeps settings cs c reached fs [] run others are fresh apart known alone =
 )
 fresh_keeps settings cs c reached fs (y ∷ []) run others are fresh apart known alone = (
   apart_more (present fs) y apart (absent_fates c y.ssrc y.format.payload_type reached.port.streams fs are fresh.absent),
-  known_more (present fs) y known (λ (told : y.told ≡ true). let untold : y.told ≡ false = fresh.untold in absurd (cc)),
+  known_more (present fs) y known (λ (announced : y.announced ≡ true). let unannounced : y.announced ≡ false = fresh.unannounced in absurd (cc)),
   each_append settings (cs ++ c ∷ []) (present fs) (y ∷ []) alone (alone_fresh settings cs c reached y run others fresh, tt),
 )
 fresh_keeps settings cs c reached fs (y ∷ z ∷ zs) run others are fresh apart known alone = absurd fresh
@@ -371,9 +371,9 @@ ended_same : (ssrc payload_type : ℕ) (x : StreamState) → is_of ssrc payload_
 ended_same ssrc payload_type x is = same_sym x.ssrc x.format.payload_type ssrc payload_type ∙ is
 
 ended_fate : (settings : SessionSettings) (before : List Call) (now : Ticks) (ssrc payload_type : ℕ) (why : Ending) (x : StreamState) (f : Option StreamState) → IsFate (ending_poll now ssrc payload_type why) x f
-    → is_of ssrc payload_type x ≡ true → IsAlone settings before x.ssrc x.format x.told x.receiver → EndedAlone settings before now ssrc payload_type why
+    → is_of ssrc payload_type x ≡ true → IsAlone settings before x.ssrc x.format x.announced x.receiver → EndedAlone settings before now ssrc payload_type why
 ended_fate settings before now ssrc payload_type why x (Some y) fate is alone =
-    absurd (subst (λ (b : Bool). AreOfOne x.told (one_event b (events.Ended ssrc payload_type why)) y.told) (ended_same ssrc payload_type x is) fate.tells)
+    absurd (subst (λ (b : Bool). AreOfOne x.announced (one_event b (events.Ended ssrc payload_type why)) y.announced) (ended_same ssrc payload_type x is) fate.tells)
 ended_fate settings before now ssrc payload_type why x None (inl replaced) is alone =
     let none : events.Ended ssrc payload_type why ∷ [] ≡ [] =
     subst (λ (b : Bool). one_event b (events.Ended ssrc payload_type why) ≡ []) (ended_same ssrc payload_type x is) replaced.tells in absurd (cc)
@@ -383,7 +383,7 @@ ended_fate settings before now ssrc payload_type why x None (inr ends) is alone 
       format = x.format;
       has_type = ids.1;
       receiver = x.receiver;
-      alone = subst₂ (λ (s : ℕ) (b : Bool). IsAlone settings before s x.format b x.receiver) ids.0 ends.told alone;
+      alone = subst₂ (λ (s : ℕ) (b : Bool). IsAlone settings before s x.format b x.receiver) ids.0 ends.announced alone;
       last = ends.after.receiver;
       part = ends.has.part;
       run = ends.has.alone;
@@ -394,7 +394,7 @@ ended_fate settings before now ssrc payload_type why x None (inr ends) is alone 
     }
 
 ended_test : (b : Bool) (settings : SessionSettings) (before : List Call) (now : Ticks) (ssrc payload_type : ℕ) (why : Ending) (x : StreamState) (f : Option StreamState) → is_of ssrc payload_type x ≡ b
-    → IsFate (ending_poll now ssrc payload_type why) x f → IsAlone settings before x.ssrc x.format x.told x.receiver
+    → IsFate (ending_poll now ssrc payload_type why) x f → IsAlone settings before x.ssrc x.format x.announced x.receiver
     → (is_of ssrc payload_type x ≡ false → EndedAlone settings before now ssrc payload_type why) → EndedAlone settings before now ssrc payload_type why
 ended_test true settings before now ssrc payload_type why x f is fate alone later = ended_fate settings before now ssrc payload_type why x f fate is alone
 ended_test false settings before now ssrc payload_type why x f is fate alone later = later is

@@ -38,7 +38,7 @@ use Rattle.codec_payload_session_runs.specs.declared.run.StepAnswer.TheVariants 
 
 -- an announced stream is not in probation
 abbrev pub IsKnown : StreamState → Type 0
-IsKnown s = s.told ≡ true → is_probation s.stage ≡ false
+IsKnown s = s.announced ≡ true → is_probation s.stage ≡ false
 
 -- the same stream before and after a call, and what the call made of its receiver
 pub record HasPart (c : Call) (x y : StreamState) : Type 0 where
@@ -51,7 +51,7 @@ pub record HasPart (c : Call) (x y : StreamState) : Type 0 where
 -- and the stream stays
 pub record Goes (c : Call) (x y : StreamState) : Type 0 where
   pub has : HasPart c x y
-  pub tells : AreOfOne x.told (events_in x.ssrc x.format.payload_type c.answer) y.told
+  pub tells : AreOfOne x.announced (events_in x.ssrc x.format.payload_type c.answer) y.announced
   pub known : IsKnown x → IsKnown y
 
 -- ---- streams that a call does not ask
@@ -59,7 +59,7 @@ pub record Goes (c : Call) (x y : StreamState) : Type 0 where
 pub silent_goes : (c : Call) (x : StreamState) → shown_in x.ssrc x.format.payload_type c ≡ [] → events_in x.ssrc x.format.payload_type c.answer ≡ [] → Goes c x x
 silent_goes c x shows tells = record {
   has = record { ssrc_is = refl; format = refl; part = []; alone = refl; is_part = record { made = tt; one_pop = omega arith; one_end = omega arith; pair_first = tt; shows = sym shows } };
-  tells = subst (λ (es : List Event). AreOfOne x.told es x.told) (sym tells) refl;
+  tells = subst (λ (es : List Event). AreOfOne x.announced es x.announced) (sym tells) refl;
   known = λ known. known;
 }
 
@@ -67,7 +67,7 @@ silent_goes c x shows tells = record {
 pub record Keeps (x y : StreamState) : Type 0 where
   pub ssrc_is : y.ssrc ≡ x.ssrc
   pub format : y.format ≡ x.format
-  pub told : y.told ≡ x.told
+  pub announced : y.announced ≡ x.announced
   pub receiver : y.receiver ≡ x.receiver
   pub stage : is_probation x.stage ≡ false → is_probation y.stage ≡ false
 
@@ -80,8 +80,8 @@ keeps_after c x y z goes keeps = record {
     alone = subst (λ (r : Receiver). RunsAlone goes.has.part x.receiver r) (sym keeps.receiver) goes.has.alone;
     is_part = goes.has.is_part;
   };
-  tells = subst (λ (b : Bool). AreOfOne x.told (events_in x.ssrc x.format.payload_type c.answer) b) (sym keeps.told) goes.tells;
-  known = λ known told. keeps.stage (goes.known known (sym keeps.told ∙ told));
+  tells = subst (λ (b : Bool). AreOfOne x.announced (events_in x.ssrc x.format.payload_type c.answer) b) (sym keeps.announced) goes.tells;
+  known = λ known announced. keeps.stage (goes.known known (sym keeps.announced ∙ announced));
 }
 
 stage_left_is : (why : Ending) (at : ℕ) (stage : Stage) → is_probation (stage_left why at stage) ≡ false
@@ -91,8 +91,8 @@ stage_left_is why at (stages.Leaving first before) = refl
 stage_left_is why at (stages.Draining first) = refl
 
 pub keeps_left : (b : Bool) (why : Ending) (at : ℕ) (s : StreamState) → Keeps s (left_when b why at s)
-keeps_left true why at s = record { ssrc_is = refl; format = refl; told = refl; receiver = refl; stage = λ is. stage_left_is why at s.stage }
-keeps_left false why at s = record { ssrc_is = refl; format = refl; told = refl; receiver = refl; stage = λ is. is }
+keeps_left true why at s = record { ssrc_is = refl; format = refl; announced = refl; receiver = refl; stage = λ is. stage_left_is why at s.stage }
+keeps_left false why at s = record { ssrc_is = refl; format = refl; announced = refl; receiver = refl; stage = λ is. is }
 
 -- ---- a datagram
 
@@ -143,21 +143,21 @@ one_follows given (pairs retransmission ∷ cs) wait is all = absurd all
 one_follows given (reports ∷ cs) wait is all = absurd all
 
 -- what a datagram makes of a stream, after its receiver received it
-record Heard (given : Bool) (ssrc : ℕ) (f : Format) (told : Bool) (stage : Stage) (r : Receiver) (y : StreamState) : Type 0 where
+record Heard (given : Bool) (ssrc : ℕ) (f : Format) (announced : Bool) (stage : Stage) (r : Receiver) (y : StreamState) : Type 0 where
   ssrc_is : y.ssrc ≡ ssrc
   format : y.format ≡ f
-  told_is : y.told ≡ told
+  announced_is : y.announced ≡ announced
   stage_is : is_probation stage ≡ false → is_probation y.stage ≡ false
   more : List ReceiverCall
   run : RunsAlone more r y.receiver
   all : AllFollow given more
 
-waiting_heard : (given : Bool) (o : Option ℕ) (s : StreamState) → given ≡ true → Heard given s.ssrc s.format s.told s.stage s.receiver (waiting_for o s)
-waiting_heard given None s is = record { ssrc_is = refl; format = refl; told_is = refl; stage_is = λ is. is; more = []; run = refl; all = tt }
+waiting_heard : (given : Bool) (o : Option ℕ) (s : StreamState) → given ≡ true → Heard given s.ssrc s.format s.announced s.stage s.receiver (waiting_for o s)
+waiting_heard given None s is = record { ssrc_is = refl; format = refl; announced_is = refl; stage_is = λ is. is; more = []; run = refl; all = tt }
 waiting_heard given (Some wait) s is = record {
   ssrc_is = refl;
   format = refl;
-  told_is = refl;
+  announced_is = refl;
   stage_is = λ is. is;
   more = follows wait ∷ [];
   run = ((waiting_for (Some wait) s).receiver, refl, refl);
@@ -165,39 +165,39 @@ waiting_heard given (Some wait) s is = record {
 }
 
 received_heard : (given accepted : Bool) (now : Ticks) (datagram : Vec ℕ) (r : Receiver) (s : StreamState) → (accepted ≡ true → given ≡ true)
-    → Heard given s.ssrc s.format s.told s.stage r (received now.0 datagram.items accepted r s)
+    → Heard given s.ssrc s.format s.announced s.stage r (received now.0 datagram.items accepted r s)
 received_heard given true now datagram r s is =
     waiting_heard given (wait_by (heard_by now.0 (number_at s.format datagram.items) s.feedback))
     (record s { receiver = r; feedback = heard_by now.0 (number_at s.format datagram.items) s.feedback; names = names_after s.name_ids datagram.items s.names }) (is refl)
-received_heard given false now datagram r s is = record { ssrc_is = refl; format = refl; told_is = refl; stage_is = λ is. is; more = []; run = refl; all = tt }
+received_heard given false now datagram r s is = record { ssrc_is = refl; format = refl; announced_is = refl; stage_is = λ is. is; more = []; run = refl; all = tt }
 
 -- the wait may follow how late missing packets arrive
-limit_heard : (given : Bool) (o : Option ℕ) (late : Option Wait) (ssrc : ℕ) (f : Format) (told : Bool) (stage : Stage) (r : Receiver) (y : StreamState) → given ≡ true → Heard given ssrc f told stage r y
-    → Heard given ssrc f told stage r (waiting_for o (record y { late = late }))
-limit_heard given None late ssrc f told stage r y is got = record {
+limit_heard : (given : Bool) (o : Option ℕ) (late : Option Wait) (ssrc : ℕ) (f : Format) (announced : Bool) (stage : Stage) (r : Receiver) (y : StreamState) → given ≡ true → Heard given ssrc f announced stage r y
+    → Heard given ssrc f announced stage r (waiting_for o (record y { late = late }))
+limit_heard given None late ssrc f announced stage r y is got = record {
   ssrc_is = got.ssrc_is;
   format = got.format;
-  told_is = got.told_is;
+  announced_is = got.announced_is;
   stage_is = got.stage_is;
   more = got.more;
   run = got.run;
   all = got.all;
 }
-limit_heard given (Some wait) late ssrc f told stage r y is got = record {
+limit_heard given (Some wait) late ssrc f announced stage r y is got = record {
   ssrc_is = got.ssrc_is;
   format = got.format;
-  told_is = got.told_is;
+  announced_is = got.announced_is;
   stage_is = got.stage_is;
   more = got.more ++ follows wait ∷ [];
   run = runs_append got.more (follows wait ∷ []) r y.receiver (waiting_for (Some wait) y).receiver got.run ((waiting_for (Some wait) y).receiver, refl, refl);
   all = one_follows given got.more wait is got.all;
 }
 
-late_heard : (b given : Bool) (now : Ticks) (datagram : Vec ℕ) (ssrc : ℕ) (f : Format) (told : Bool) (stage : Stage) (r : Receiver) (y : StreamState) → (b ≡ true → given ≡ true)
-    → Heard given ssrc f told stage r y → Heard given ssrc f told stage r (late_followed b now.0 datagram.items y)
-late_heard true given now datagram ssrc f told stage r y is got =
-    limit_heard given (limit_by (late_noted now.0 datagram.items y).late) (late_noted now.0 datagram.items y).late ssrc f told stage r y (is refl) got
-late_heard false given now datagram ssrc f told stage r y is got = got
+late_heard : (b given : Bool) (now : Ticks) (datagram : Vec ℕ) (ssrc : ℕ) (f : Format) (announced : Bool) (stage : Stage) (r : Receiver) (y : StreamState) → (b ≡ true → given ≡ true)
+    → Heard given ssrc f announced stage r y → Heard given ssrc f announced stage r (late_followed b now.0 datagram.items y)
+late_heard true given now datagram ssrc f announced stage r y is got =
+    limit_heard given (limit_by (late_noted now.0 datagram.items y).late) (late_noted now.0 datagram.items y).late ssrc f announced stage r y (is refl) got
+late_heard false given now datagram ssrc f announced stage r y is got = got
 
 stage_after_is : (probation accepted : ℕ) (stage : Stage) → is_probation stage ≡ false → is_probation (stage_after probation accepted stage) ≡ false
 stage_after_is probation accepted stages.Probation is = absurd (cc)
@@ -205,13 +205,13 @@ stage_after_is probation accepted stages.Playing is = refl
 stage_after_is probation accepted (stages.Leaving why at) is = refl
 stage_after_is probation accepted (stages.Draining why) is = refl
 
-unless_heard : (b given : Bool) (now : Ticks) (probation : ℕ) (accepted : Bool) (size ssrc : ℕ) (f : Format) (told : Bool) (stage : Stage) (r : Receiver) (s : StreamState)
-    → Heard given ssrc f told stage r s → Heard given ssrc f told stage r (heard_unless b now.0 probation accepted size s)
-unless_heard true given now probation accepted size ssrc f told stage r s got = got
-unless_heard false given now probation accepted size ssrc f told stage r s got = record {
+unless_heard : (b given : Bool) (now : Ticks) (probation : ℕ) (accepted : Bool) (size ssrc : ℕ) (f : Format) (announced : Bool) (stage : Stage) (r : Receiver) (s : StreamState)
+    → Heard given ssrc f announced stage r s → Heard given ssrc f announced stage r (heard_unless b now.0 probation accepted size s)
+unless_heard true given now probation accepted size ssrc f announced stage r s got = got
+unless_heard false given now probation accepted size ssrc f announced stage r s got = record {
   ssrc_is = got.ssrc_is;
   format = got.format;
-  told_is = got.told_is;
+  announced_is = got.announced_is;
   stage_is = λ is. stage_after_is probation (accepted_after accepted s.accepted) s.stage (got.stage_is is);
   more = got.more;
   run = got.run;
@@ -223,12 +223,12 @@ accepted_given (Ok outcome) is = refl
 accepted_given (Err e) is = absurd (cc)
 
 takes_heard : (now : Ticks) (datagram : Vec ℕ) (probation : ℕ) (x : StreamState) (told : Result Outcome ReceiveError) (y : StreamState) → (got : Takes now probation datagram.items x told y)
-    → Heard (is_ok told) x.ssrc x.format x.told x.stage got.0 y
+    → Heard (is_ok told) x.ssrc x.format x.announced x.stage got.0 y
 takes_heard now datagram probation x told y got =
     let r : StreamState = received now.0 datagram.items (is_accepted told) got.0 x in
-    subst (λ (z : StreamState). Heard (is_ok told) x.ssrc x.format x.told x.stage got.0 z) (sym got.2)
-    (unless_heard (is_no_memory told) (is_ok told) now probation (is_accepted told) (payload_size (rtp_at datagram.items)) x.ssrc x.format x.told x.stage got.0 (late_followed (is_ok told) now.0 datagram.items r)
-    (late_heard (is_ok told) (is_ok told) now datagram x.ssrc x.format x.told x.stage got.0 r (λ is. is)
+    subst (λ (z : StreamState). Heard (is_ok told) x.ssrc x.format x.announced x.stage got.0 z) (sym got.2)
+    (unless_heard (is_no_memory told) (is_ok told) now probation (is_accepted told) (payload_size (rtp_at datagram.items)) x.ssrc x.format x.announced x.stage got.0 (late_followed (is_ok told) now.0 datagram.items r)
+    (late_heard (is_ok told) (is_ok told) now datagram x.ssrc x.format x.announced x.stage got.0 r (λ is. is)
     (received_heard (is_ok told) (is_accepted told) now datagram got.0 x (accepted_given told))))
 
 abbrev pub call_of : Ticks → Option ℕ → Vec ℕ → Result Arrival AllocError → Call
@@ -279,7 +279,7 @@ heard_made now micros datagram ssrc payload_type told answer more all arrives =
 pub fed_goes : (now : Ticks) (micros : Option ℕ) (datagram : Vec ℕ) (probation : ℕ) (x : StreamState) (told : Result Outcome ReceiveError) (y : StreamState) (answer : Result Arrival AllocError)
     → Takes now probation datagram.items x told y → Arrives (is_no_memory told) (arrival_of x.ssrc x.format.payload_type told) answer → Goes (call_of now micros datagram answer) x y
 fed_goes now micros datagram probation x told y answer got arrives =
-    let h : Heard (is_ok told) x.ssrc x.format x.told x.stage got.0 y = takes_heard now datagram probation x told y got in
+    let h : Heard (is_ok told) x.ssrc x.format x.announced x.stage got.0 y = takes_heard now datagram probation x told y got in
     let f : IsFollowing h.more = following (is_ok told) h.more h.all in
     record {
       has = record {
@@ -296,8 +296,8 @@ fed_goes now micros datagram probation x told y answer got arrives =
               ∙ given_is (is_no_memory told) now datagram.items x.ssrc x.format.payload_type told answer arrives;
         };
       };
-      tells = h.told_is;
-      known = λ known is. h.stage_is (known (sym h.told_is ∙ is));
+      tells = h.announced_is;
+      known = λ known is. h.stage_is (known (sym h.announced_is ∙ is));
     }
 
 -- the same for a stream that first gets the SSRC of its retransmissions
@@ -307,7 +307,7 @@ pub paired_fed_goes : (now : Ticks) (micros : Option ℕ) (datagram : Vec ℕ) (
 paired_fed_goes now micros datagram probation named false x told y answer names got arrives = fed_goes now micros datagram probation x told y answer got arrives
 paired_fed_goes now micros datagram probation named true x told y answer names got arrives =
     let z : StreamState = paired named x in
-    let h : Heard (is_ok told) x.ssrc x.format x.told x.stage got.0 y = takes_heard now datagram probation z told y got in
+    let h : Heard (is_ok told) x.ssrc x.format x.announced x.stage got.0 y = takes_heard now datagram probation z told y got in
     let f : IsFollowing h.more = following (is_ok told) h.more h.all in
     record {
       has = record {
@@ -324,17 +324,17 @@ paired_fed_goes now micros datagram probation named true x told y answer names g
               ∙ given_is (is_no_memory told) now datagram.items x.ssrc x.format.payload_type told answer arrives;
         };
       };
-      tells = h.told_is;
-      known = λ known is. h.stage_is (known (sym h.told_is ∙ is));
+      tells = h.announced_is;
+      known = λ known is. h.stage_is (known (sym h.announced_is ∙ is));
     }
 
 -- ---- a poll
 
 -- what the event of a stream says of it: the stream stays, or it is removed. `kept` puts the stream back in front of the others
-abbrev pub Kind : (told after : Bool) (ssrc payload_type : ℕ) → Option Event → (List StreamState → List StreamState) → StreamState → Type 0
-Kind told after ssrc payload_type event kept y =
-    AreOfOne told (events_by ssrc payload_type event) after × ((rest : List StreamState) → kept rest ≡ y ∷ rest)
-    ⊎ ((why : Ending) × (told ≡ true) × (events_by ssrc payload_type event ≡ events.Ended ssrc payload_type why ∷ []) × ((rest : List StreamState) → kept rest ≡ rest))
+abbrev pub Kind : (announced after : Bool) (ssrc payload_type : ℕ) → Option Event → (List StreamState → List StreamState) → StreamState → Type 0
+Kind announced after ssrc payload_type event kept y =
+    AreOfOne announced (events_by ssrc payload_type event) after × ((rest : List StreamState) → kept rest ≡ y ∷ rest)
+    ⊎ ((why : Ending) × (announced ≡ true) × (events_by ssrc payload_type event ≡ events.Ended ssrc payload_type why ∷ []) × ((rest : List StreamState) → kept rest ≡ rest))
 
 -- the event is of no other stream
 abbrev pub IsOwn : Ticks → ℕ → ℕ → Option Event → Type 0
@@ -352,13 +352,13 @@ pub record Stepped (now : Ticks) (x : StreamState) (event : Option Event) (kept 
   pub one_end : many_finishes part ≤ 1
   pub shows : shown part ≡ released_by x.ssrc x.format.payload_type now event
   pub own : IsOwn now x.ssrc x.format.payload_type event
-  pub kind : Kind x.told y.told x.ssrc x.format.payload_type event kept y
+  pub kind : Kind x.announced y.announced x.ssrc x.format.payload_type event kept y
   pub known : IsKnown x → IsKnown y
 
 record Drained (now : Ticks) (x y : StreamState) : Type 0 where
   ssrc_is : y.ssrc ≡ x.ssrc
   format : y.format ≡ x.format
-  told_is : y.told ≡ x.told
+  announced_is : y.announced ≡ x.announced
   stage_is : is_probation x.stage ≡ false → is_probation y.stage ≡ false
   part : List ReceiverCall
   alone : RunsAlone part x.receiver y.receiver
@@ -369,9 +369,9 @@ record Drained (now : Ticks) (x y : StreamState) : Type 0 where
 
 drained : (now : Ticks) (o : Option Ending) (x y : StreamState) → Drains o x y → Drained now x y
 drained now None x y got = subst (λ (z : StreamState). Drained now x z) (sym got)
-    (record { ssrc_is = refl; format = refl; told_is = refl; stage_is = λ is. is; part = []; alone = refl; made = λ s p told. tt; no_pop = refl; one_end = omega arith; hidden = refl })
+    (record { ssrc_is = refl; format = refl; announced_is = refl; stage_is = λ is. is; part = []; alone = refl; made = λ s p told. tt; no_pop = refl; one_end = omega arith; hidden = refl })
 drained now (Some why) x y got = subst (λ (z : StreamState). Drained now x z) (sym got.2)
-    (record { ssrc_is = refl; format = refl; told_is = refl; stage_is = λ is. refl; part = finishes ∷ []; alone = (got.0, got.1, refl); made = λ s p told. (tt, tt); no_pop = refl; one_end = omega arith; hidden = refl })
+    (record { ssrc_is = refl; format = refl; announced_is = refl; stage_is = λ is. refl; part = finishes ∷ []; alone = (got.0, got.1, refl); made = λ s p told. (tt, tt); no_pop = refl; one_end = omega arith; hidden = refl })
 
 -- what follows a pop of an announced stream
 record Told (now : Ticks) (ssrc payload_type : ℕ) (popping : Option (Result (Popped Release) AllocError)) (event : Option Event) (kept : List StreamState → List StreamState) (y : StreamState) : Type 0 where
@@ -382,7 +382,7 @@ record Told (now : Ticks) (ssrc payload_type : ℕ) (popping : Option (Result (P
 record Followed (now : Ticks) (popping : Option (Result (Popped Release) AllocError)) (m : StreamState) (event : Option Event) (kept : List StreamState → List StreamState) (y : StreamState) : Type 0 where
   ssrc_is : y.ssrc ≡ m.ssrc
   format : y.format ≡ m.format
-  told_is : y.told ≡ m.told
+  announced_is : y.announced ≡ m.announced
   stage_is : y.stage ≡ m.stage
   receiver : y.receiver ≡ m.receiver
   tells : Told now y.ssrc y.format.payload_type popping event kept y
@@ -454,7 +454,7 @@ answer_told now (Err e) y =
 
 same_followed : (now : Ticks) (popping : Option (Result (Popped Release) AllocError)) (m : StreamState) (event : Option Event) (kept : List StreamState → List StreamState)
     → Told now m.ssrc m.format.payload_type popping event kept m → Followed now popping m event kept m
-same_followed now popping m event kept tells = record { ssrc_is = refl; format = refl; told_is = refl; stage_is = refl; receiver = refl; tells = tells }
+same_followed now popping m event kept tells = record { ssrc_is = refl; format = refl; announced_is = refl; stage_is = refl; receiver = refl; tells = tells }
 
 -- by the packet of the requests, if there is one
 asked_told : (told : Result (Option (Vec ℕ)) AllocError) (now : Ticks) (y : StreamState) → Told now y.ssrc y.format.payload_type None (event_of y (step_of told)) (λ (rest : List StreamState). kept_after (step_of told) y rest) y
@@ -471,7 +471,7 @@ requests_followed (Some a) now m step y got =
     (record {
       ssrc_is = refl;
       format = refl;
-      told_is = refl;
+      announced_is = refl;
       stage_is = refl;
       receiver = refl;
       tells = asked_told got.told now (record m { feedback = Some got.asking });
@@ -497,20 +497,20 @@ followed (Some told) now m step y got =
     (record {
       ssrc_is = refl;
       format = refl;
-      told_is = refl;
+      announced_is = refl;
       stage_is = refl;
       receiver = refl;
       tells = answer_told now told (record m { feedback = answered_if (is_keyframe told m.receiver) m.feedback });
     })
 
-plays_stepped : (now : Ticks) (idle : ℕ) (x : StreamState) (step : _) (y : StreamState) → is_probation x.stage ≡ false → x.told ≡ true → Plays now idle x step y
+plays_stepped : (now : Ticks) (idle : ℕ) (x : StreamState) (step : _) (y : StreamState) → is_probation x.stage ≡ false → x.announced ≡ true → Plays now idle x step y
     → Stepped now x (event_of y step) (λ (rest : List StreamState). kept_after step y rest) y
-plays_stepped now idle x step y plays told got =
+plays_stepped now idle x step y plays announced got =
     let d : Drained now x got.0 = drained now (end_of now.0 idle x) x got.0 got.1 in
     let f : Followed now got.2.told (record got.0 { receiver = got.2.receiver }) (event_of y step) (λ (rest : List StreamState). kept_after step y rest) y =
     followed got.2.told now (record got.0 { receiver = got.2.receiver }) step y got.2.follows in
     let own : List ReceiverCall = pops now got.2.told ∷ [] in
-    let told_after : y.told ≡ true = f.told_is ∙ (d.told_is ∙ told) in
+    let announced_after : y.announced ≡ true = f.announced_is ∙ (d.announced_is ∙ announced) in
     let stage_after : is_probation y.stage ≡ false = ap (λ (s : Stage). is_probation s) f.stage_is ∙ d.stage_is plays in
     let ssrc_is : y.ssrc ≡ x.ssrc = f.ssrc_is ∙ d.ssrc_is in
     let format : y.format ≡ x.format = f.format ∙ d.format in
@@ -526,14 +526,14 @@ plays_stepped now idle x step y plays told got =
       one_end = omega (arith, finishes_append d.part own, d.one_end);
       shows = shown_append d.part own ∙ (ap (λ (cs : List ReceiverCall). cs ++ shown own) d.hidden ∙ tells.shows);
       own = tells.own;
-      kind = subst₂ (λ (a b : Bool). Kind a b x.ssrc x.format.payload_type (event_of y step) (λ (rest : List StreamState). kept_after step y rest) y) (sym told) (sym told_after) tells.kind;
+      kind = subst₂ (λ (a b : Bool). Kind a b x.ssrc x.format.payload_type (event_of y step) (λ (rest : List StreamState). kept_after step y rest) y) (sym announced) (sym announced_after) tells.kind;
       known = λ known is. stage_after;
     }
 
 -- an event with the beginning of a stream
-begun_stepped : (now : Ticks) (x : StreamState) → x.told ≡ false → is_probation x.stage ≡ false
-    → Stepped now x (Some (events.Begun x.ssrc x.format.payload_type)) (stays_with (record x { told = true })) (record x { told = true })
-begun_stepped now x told stage_is =
+begun_stepped : (now : Ticks) (x : StreamState) → x.announced ≡ false → is_probation x.stage ≡ false
+    → Stepped now x (Some (events.Begun x.ssrc x.format.payload_type)) (stays_with (record x { announced = true })) (record x { announced = true })
+begun_stepped now x announced stage_is =
     let same : is_same x.ssrc x.format.payload_type x.ssrc x.format.payload_type ≡ true = same_is x.ssrc x.format.payload_type in
     let event : Event = events.Begun x.ssrc x.format.payload_type in
     record {
@@ -546,7 +546,7 @@ begun_stepped now x told stage_is =
       one_end = omega arith;
       shows = refl;
       own = λ s p other. (ap (λ (b : Bool). one_event b event) other, refl);
-      kind = inl (subst (λ (b : Bool). AreOfOne x.told (one_event b event) true) (sym same) (told, refl), λ rest. refl);
+      kind = inl (subst (λ (b : Bool). AreOfOne x.announced (one_event b event) true) (sym same) (announced, refl), λ rest. refl);
       known = λ known is. stage_is;
     }
 
@@ -565,13 +565,13 @@ still_stepped now x = record {
   known = λ known. known;
 }
 
-by_stepped : (b told : Bool) (now : Ticks) (idle : ℕ) (x : StreamState) (step : _) (y : StreamState) → is_probation x.stage ≡ b → x.told ≡ told → StepsBy b told now idle x step y
+by_stepped : (b announced : Bool) (now : Ticks) (idle : ℕ) (x : StreamState) (step : _) (y : StreamState) → is_probation x.stage ≡ b → x.announced ≡ announced → StepsBy b announced now idle x step y
     → Stepped now x (event_of y step) (λ (rest : List StreamState). kept_after step y rest) y
-by_stepped true told now idle x step y stage_is told_is got =
+by_stepped true announced now idle x step y stage_is announced_is got =
     subst₂ (λ (st : _) (z : StreamState). Stepped now x (event_of z st) (λ (rest : List StreamState). kept_after st z rest) z) (sym got.0) (sym got.1) (still_stepped now x)
-by_stepped false false now idle x step y stage_is told_is got =
-    subst₂ (λ (st : _) (z : StreamState). Stepped now x (event_of z st) (λ (rest : List StreamState). kept_after st z rest) z) (sym got.0) (sym got.1) (begun_stepped now x told_is stage_is)
-by_stepped false true now idle x step y stage_is told_is got = plays_stepped now idle x step y stage_is told_is got
+by_stepped false false now idle x step y stage_is announced_is got =
+    subst₂ (λ (st : _) (z : StreamState). Stepped now x (event_of z st) (λ (rest : List StreamState). kept_after st z rest) z) (sym got.0) (sym got.1) (begun_stepped now x announced_is stage_is)
+by_stepped false true now idle x step y stage_is announced_is got = plays_stepped now idle x step y stage_is announced_is got
 
 pub steps_stepped : (now : Ticks) (idle : ℕ) (x : StreamState) (step : _) (y : StreamState) → Steps now idle x step y → Stepped now x (event_of y step) (λ (rest : List StreamState). kept_after step y rest) y
-steps_stepped now idle x step y got = by_stepped (is_probation x.stage) x.told now idle x step y refl refl got
+steps_stepped now idle x step y got = by_stepped (is_probation x.stage) x.announced now idle x step y refl refl got

@@ -98,7 +98,7 @@ IsSilence idle ssrc payload_type before c =
 abbrev pub IsCause : (idle : ℕ) → Ending → (ssrc payload_type : ℕ) → List Call → Call → Type 0
 IsCause idle endings.Bye ssrc payload_type before c = IsBye ssrc c
 IsCause idle endings.Timeout ssrc payload_type before c = IsSilence idle ssrc payload_type before c
-IsCause idle endings.Told ssrc payload_type before c = IsEndCall ssrc c
+IsCause idle endings.ByCall ssrc payload_type before c = IsEndCall ssrc c
 IsCause idle endings.Changed ssrc payload_type before c = IsChange ssrc payload_type c
 
 -- one of the calls let the stream end

@@ -297,29 +297,29 @@ events_of ssrc payload_type (c ∷ cs) = events_in ssrc payload_type c.answer ++
 -- the events in order: a stream is announced before its other events, and not twice; after its end a later stream may be. Says
 -- whether a stream is announced before the events, and after them
 abbrev pub AreInOrder : Bool → List Event → Bool → Type 0
-AreInOrder told [] after = after ≡ told
-AreInOrder told (events.Begun s p ∷ es) after = (told ≡ false) × AreInOrder true es after
-AreInOrder told (events.Unit s p time decodable keyframe unit ∷ es) after = (told ≡ true) × AreInOrder true es after
-AreInOrder told (events.TooLarge s p unit ∷ es) after = (told ≡ true) × AreInOrder true es after
-AreInOrder told (events.Refused s p fault ∷ es) after = (told ≡ true) × AreInOrder true es after
-AreInOrder told (events.Feedback s p packet ∷ es) after = (told ≡ true) × AreInOrder true es after
-AreInOrder told (events.Ended s p why ∷ es) after = (told ≡ true) × AreInOrder false es after
-AreInOrder told (events.Telephone s p time marker payload ∷ es) after = ⊥
-AreInOrder told (events.Report packet ∷ es) after = ⊥
-AreInOrder told (events.TransportFeedback packet ∷ es) after = ⊥
+AreInOrder announced [] after = after ≡ announced
+AreInOrder announced (events.Begun s p ∷ es) after = (announced ≡ false) × AreInOrder true es after
+AreInOrder announced (events.Unit s p time decodable keyframe unit ∷ es) after = (announced ≡ true) × AreInOrder true es after
+AreInOrder announced (events.TooLarge s p unit ∷ es) after = (announced ≡ true) × AreInOrder true es after
+AreInOrder announced (events.Refused s p fault ∷ es) after = (announced ≡ true) × AreInOrder true es after
+AreInOrder announced (events.Feedback s p packet ∷ es) after = (announced ≡ true) × AreInOrder true es after
+AreInOrder announced (events.Ended s p why ∷ es) after = (announced ≡ true) × AreInOrder false es after
+AreInOrder announced (events.Telephone s p time marker payload ∷ es) after = ⊥
+AreInOrder announced (events.Report packet ∷ es) after = ⊥
+AreInOrder announced (events.TransportFeedback packet ∷ es) after = ⊥
 
 -- the same, without an end
 abbrev pub AreOfOne : Bool → List Event → Bool → Type 0
-AreOfOne told [] after = after ≡ told
-AreOfOne told (events.Begun s p ∷ es) after = (told ≡ false) × AreOfOne true es after
-AreOfOne told (events.Unit s p time decodable keyframe unit ∷ es) after = (told ≡ true) × AreOfOne true es after
-AreOfOne told (events.TooLarge s p unit ∷ es) after = (told ≡ true) × AreOfOne true es after
-AreOfOne told (events.Refused s p fault ∷ es) after = (told ≡ true) × AreOfOne true es after
-AreOfOne told (events.Feedback s p packet ∷ es) after = (told ≡ true) × AreOfOne true es after
-AreOfOne told (events.Ended s p why ∷ es) after = ⊥
-AreOfOne told (events.Telephone s p time marker payload ∷ es) after = ⊥
-AreOfOne told (events.Report packet ∷ es) after = ⊥
-AreOfOne told (events.TransportFeedback packet ∷ es) after = ⊥
+AreOfOne announced [] after = after ≡ announced
+AreOfOne announced (events.Begun s p ∷ es) after = (announced ≡ false) × AreOfOne true es after
+AreOfOne announced (events.Unit s p time decodable keyframe unit ∷ es) after = (announced ≡ true) × AreOfOne true es after
+AreOfOne announced (events.TooLarge s p unit ∷ es) after = (announced ≡ true) × AreOfOne true es after
+AreOfOne announced (events.Refused s p fault ∷ es) after = (announced ≡ true) × AreOfOne true es after
+AreOfOne announced (events.Feedback s p packet ∷ es) after = (announced ≡ true) × AreOfOne true es after
+AreOfOne announced (events.Ended s p why ∷ es) after = ⊥
+AreOfOne announced (events.Telephone s p time marker payload ∷ es) after = ⊥
+AreOfOne announced (events.Report packet ∷ es) after = ⊥
+AreOfOne announced (events.TransportFeedback packet ∷ es) after = ⊥
 
 -- ---- streams
 
@@ -333,7 +333,7 @@ IsAbsent ssrc payload_type (s ∷ ss) = (is_of ssrc payload_type s ≡ false) ×
 -- its format and its SSRC. From there on it made exactly the calls of the projection. They show the datagrams that answers give to
 -- its SSRC and payload type, and the units and refused frames of its events, in order. Its announcement is the first of its events, and none of them is
 -- an end
-pub record IsAlone (settings : SessionSettings) (calls : List Call) (ssrc : ℕ) (f : Format) (told : Bool) (r : Receiver) : Type 0 where
+pub record IsAlone (settings : SessionSettings) (calls : List Call) (ssrc : ℕ) (f : Format) (announced : Bool) (r : Receiver) : Type 0 where
   pub before : List Call
   pub during : List Call
   pub whole : calls ≡ before ++ during
@@ -348,16 +348,16 @@ pub record IsAlone (settings : SessionSettings) (calls : List Call) (ssrc : ℕ)
   pub alone : RunsAlone own fresh.receiver r
   pub projects : Projects ssrc f.payload_type during own
   pub shows : shown own ≡ shown_of ssrc f.payload_type during
-  pub tells : AreOfOne false (events_of ssrc f.payload_type during) told
+  pub tells : AreOfOne false (events_of ssrc f.payload_type during) announced
 
 abbrev pub EachIsAlone : SessionSettings → List Call → List StreamState → Type 0
 EachIsAlone settings calls [] = Unit {0}
-EachIsAlone settings calls (s ∷ ss) = IsAlone settings calls s.ssrc s.format s.told s.receiver × EachIsAlone settings calls ss
+EachIsAlone settings calls (s ∷ ss) = IsAlone settings calls s.ssrc s.format s.announced s.receiver × EachIsAlone settings calls ss
 
 -- whether a stream with this SSRC and payload type is announced
 abbrev pub is_announced : ℕ → ℕ → List StreamState → Bool
 is_announced ssrc payload_type [] = false
-is_announced ssrc payload_type (s ∷ ss) = if is_of ssrc payload_type s then s.told else is_announced ssrc payload_type ss
+is_announced ssrc payload_type (s ∷ ss) = if is_of ssrc payload_type s then s.announced else is_announced ssrc payload_type ss
 
 -- the events of each SSRC and payload type are in order
 abbrev pub TellsInOrder : List Call → List StreamState → Type 0

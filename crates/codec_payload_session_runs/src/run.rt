@@ -3,7 +3,7 @@
 ghost use Rattle.std.specs.Prelude.{◌≡◌, length, IfErr, IfOk, OnErr, Option};
 ghost use Rattle.codec_payload_session.specs.Accepting.{Accepts, time_for};
 ghost use Rattle.codec_payload_session_formats.specs.Checks.{fault_of};
-ghost use Rattle.codec_payload_session.specs.Ports.{new_session, taken_in, told_counts};
+ghost use Rattle.codec_payload_session.specs.Ports.{counts_with, new_session, taken_in};
 ghost use Rattle.codec_payload_session_formats.specs.declared.formats.SessionSettings.{SessionSettings as Settings};
 ghost use Rattle.codec_payload_session_runs.specs.Counting.{Counts};
 ghost use Rattle.codec_payload_session_runs.specs.Endings.{EndsHaveCauses, StreamsAreAlone, TwoDatagramsBegin};
@@ -111,7 +111,7 @@ pub fn run_session(
 ) -> Result<SessionRun, AllocError>
     ensures each { IfOk result (λ run. length run.answers.items ≡ length steps.now) }
     ensures runs { IfOk result (λ run. Runs (calls_of steps.now run.answers.items) session.old session.new) }
-    ensures counts { IfOk result (λ run. run.counts ≡ told_counts session.new.counts session.new.port.ended session.new.telephone.dropped) }
+    ensures counts { IfOk result (λ run. run.counts ≡ counts_with session.new.counts session.new.port.ended session.new.telephone.dropped) }
     // From a new session on: every datagram is counted once.
     ensures counted { IfOk result (λ run. (settings : Settings) → session.old ≡ new_session settings → Counts (calls_of steps.now run.answers.items) run.counts (taken_in session.new.port.streams)) }
     // From a new session on: each stream is a receiver alone.

@@ -152,10 +152,10 @@ playing_is (stages.Leaving why at) is = absurd (cc)
 playing_is (stages.Draining why) is = absurd (cc)
 
 -- a stream that is done is quiet, whatever the time
-pub done_quiet : (now until : ℕ) (r : Receiver) (p : Result (Popped Release) AllocError) (s : StreamState) → PopsGated now r (answer_of (Some p)) s.receiver → s.told ≡ true → is_done s ≡ true
-    → IsQuietUntil until None s.told s.stage s.last s.feedback s.receiver
-done_quiet now zero r p s pops told done = tt
-done_quiet now (suc until) r p s pops told done =
+pub done_quiet : (now until : ℕ) (r : Receiver) (p : Result (Popped Release) AllocError) (s : StreamState) → PopsGated now r (answer_of (Some p)) s.receiver → s.announced ≡ true → is_done s ≡ true
+    → IsQuietUntil until None s.announced s.stage s.last s.feedback s.receiver
+done_quiet now zero r p s pops announced done = tt
+done_quiet now (suc until) r p s pops announced done =
     let asks = both _ (are_idle s.feedback s.receiver) done in
     let idle = both (is_playing s.stage) (is_idle s.receiver.packets) asks.0 in
     let stage : s.stage ≡ stages.Playing = playing_is s.stage idle.0 in
@@ -164,7 +164,7 @@ done_quiet now (suc until) r p s pops told done =
     record {
       work_is = sym (ap (λ (o : Option ℕ). earlier o (request_deadline s.stage s.feedback)) unit ∙ ap (λ (o : Option ℕ). earlier None o) request);
       quiet = λ at less. record {
-        is_told = told;
+        is_announced = announced;
         plays = stage;
         pops = receiver_idle now r s.receiver p pops idle.1 at;
         asks = asks_idle s.feedback at s.last s.receiver asks.1;
@@ -172,7 +172,7 @@ done_quiet now (suc until) r p s pops told done =
     }
 
 -- until the moment that a stream keeps after a unit: 0 is none
-pub quiet_after : (now until most : ℕ) (done : Bool) (r : Receiver) (p : Result (Popped Release) AllocError) (s : StreamState) → PopsGated now r (answer_of (Some p)) s.receiver → s.told ≡ true
-    → done ≡ is_done s → until ≡ (if done then most else 0) → IsQuietUntil until None s.told s.stage s.last s.feedback s.receiver
-quiet_after now until most true r p s pops told is until_is = done_quiet now until r p s pops told (sym is)
-quiet_after now until most false r p s pops told is until_is = subst (λ (n : ℕ). IsQuietUntil n None s.told s.stage s.last s.feedback s.receiver) (sym until_is) tt
+pub quiet_after : (now until most : ℕ) (done : Bool) (r : Receiver) (p : Result (Popped Release) AllocError) (s : StreamState) → PopsGated now r (answer_of (Some p)) s.receiver → s.announced ≡ true
+    → done ≡ is_done s → until ≡ (if done then most else 0) → IsQuietUntil until None s.announced s.stage s.last s.feedback s.receiver
+quiet_after now until most true r p s pops announced is until_is = done_quiet now until r p s pops announced (sym is)
+quiet_after now until most false r p s pops announced is until_is = subst (λ (n : ℕ). IsQuietUntil n None s.announced s.stage s.last s.feedback s.receiver) (sym until_is) tt

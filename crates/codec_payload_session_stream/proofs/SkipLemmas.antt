@@ -82,16 +82,16 @@ asks_by (Some a) now s is asks = record {
   after = ap (λ (o : Option Asking). record s { feedback = o }) is;
 }
 
-known : (until now : ℕ) (work : Option ℕ) (told : Bool) (stage : Stage) (last : ℕ) (feedback : Option Asking) (r : Receiver) → now < until
-    → IsQuietUntil until work told stage last feedback r → IsKnown until work told stage last feedback r
-known zero now work told stage last feedback r less quiet = absurd (omega (arith, less))
-known (suc until) now work told stage last feedback r less quiet = quiet
+known : (until now : ℕ) (work : Option ℕ) (announced : Bool) (stage : Stage) (last : ℕ) (feedback : Option Asking) (r : Receiver) → now < until
+    → IsQuietUntil until work announced stage last feedback r → IsKnown until work announced stage last feedback r
+known zero now work announced stage last feedback r less quiet = absurd (omega (arith, less))
+known (suc until) now work announced stage last feedback r less quiet = quiet
 
 -- the time that a stream keeps is its own
-pub kept_work : (until : ℕ) (work : Option ℕ) (s : StreamState) → 0 < until → IsQuietUntil until work s.told s.stage s.last s.feedback s.receiver → work ≡ work_deadline s
-kept_work until work s less quiet = (known until 0 work s.told s.stage s.last s.feedback s.receiver less quiet).work_is
+pub kept_work : (until : ℕ) (work : Option ℕ) (s : StreamState) → 0 < until → IsQuietUntil until work s.announced s.stage s.last s.feedback s.receiver → work ≡ work_deadline s
+kept_work until work s less quiet = (known until 0 work s.announced s.stage s.last s.feedback s.receiver less quiet).work_is
 
-pub quiet_steps : (now : Ticks) (idle : ℕ) (s : StreamState) → nat_le idle (now.0 - s.last) ≡ false → IsQuiet now.0 s.told s.stage s.last s.feedback s.receiver → Steps now idle s steps.Nothing s
+pub quiet_steps : (now : Ticks) (idle : ℕ) (s : StreamState) → nat_le idle (now.0 - s.last) ≡ false → IsQuiet now.0 s.announced s.stage s.last s.feedback s.receiver → Steps now idle s steps.Nothing s
 quiet_steps now idle s awake quiet =
     let lasts : end_by now.0 idle s.last s.stage ≡ None =
     ap (λ (g : Stage). end_by now.0 idle s.last g) quiet.plays ∙ ap (λ (b : Bool). if b then Some endings.Timeout else None) awake in
@@ -99,18 +99,18 @@ quiet_steps now idle s awake quiet =
     subst (λ (g : Stage). RestsBy {U = Release} g now.0 s steps.Nothing s) (sym quiet.plays) (asks_by s.feedback now.0 s refl quiet.asks) in
     let pops : Pops now s steps.Nothing s = record { told = None; receiver = s.receiver; pops = nothing_popped now.0 s.receiver quiet.pops; refused = tt; large = refl; follows = rests } in
     let plays : Plays now idle s steps.Nothing s = (s, subst (λ (o : Option Ending). Drains o s s) (sym lasts) refl, pops) in
-    subst (λ (g : Stage). StepsBy (is_probation g) s.told now idle s steps.Nothing s) (sym quiet.plays)
-    (subst (λ (b : Bool). StepsBy false b now idle s steps.Nothing s) (sym quiet.is_told) plays)
+    subst (λ (g : Stage). StepsBy (is_probation g) s.announced now idle s steps.Nothing s) (sym quiet.plays)
+    (subst (λ (b : Bool). StepsBy false b now idle s steps.Nothing s) (sym quiet.is_announced) plays)
 
 -- a stream whose quiet time is known is quiet before it
-pub quiet_before : (until now : ℕ) (work : Option ℕ) (told : Bool) (stage : Stage) (last : ℕ) (feedback : Option Asking) (r : Receiver) → now < until → IsQuietUntil until work told stage last feedback r → IsQuiet now told stage last feedback r
-quiet_before until now work told stage last feedback r less quiet = (known until now work told stage last feedback r less quiet).quiet now less
+pub quiet_before : (until now : ℕ) (work : Option ℕ) (announced : Bool) (stage : Stage) (last : ℕ) (feedback : Option Asking) (r : Receiver) → now < until → IsQuietUntil until work announced stage last feedback r → IsQuiet now announced stage last feedback r
+quiet_before until now work announced stage last feedback r less quiet = (known until now work announced stage last feedback r less quiet).quiet now less
 
 -- by the fields of the stream
 pub skips : (until : ℕ) (work : Option ℕ) (now : Ticks) (idle : ℕ) (s : StreamState) → now.0 < until → now.0 - s.last < idle
-    → IsQuietUntil until work s.told s.stage s.last s.feedback s.receiver → Steps now idle s steps.Nothing s
+    → IsQuietUntil until work s.announced s.stage s.last s.feedback s.receiver → Steps now idle s steps.Nothing s
 skips until work now idle s less awake quiet =
-    quiet_steps now idle s (grind (arith, nat_tests)) ((known until now.0 work s.told s.stage s.last s.feedback s.receiver less quiet).quiet now.0 less)
+    quiet_steps now idle s (grind (arith, nat_tests)) ((known until now.0 work s.announced s.stage s.last s.feedback s.receiver less quiet).quiet now.0 less)
 
 -- ---- when a stream is quiet
 
@@ -152,10 +152,10 @@ earlier_both None b now before = (tt, before)
 earlier_both (Some a) None now before = (before, tt)
 earlier_both (Some a) (Some b) now before = (omega (arith, before), omega (arith, before))
 
-quiet_until : (until : ℕ) (work : Option ℕ) (told : Bool) (stage : Stage) (last : ℕ) (feedback : Option Asking) (r : Receiver)
-    → (0 < until → IsKnown until work told stage last feedback r) → IsQuietUntil until work told stage last feedback r
-quiet_until zero work told stage last feedback r known = tt
-quiet_until (suc until) work told stage last feedback r known = known (omega arith)
+quiet_until : (until : ℕ) (work : Option ℕ) (announced : Bool) (stage : Stage) (last : ℕ) (feedback : Option Asking) (r : Receiver)
+    → (0 < until → IsKnown until work announced stage last feedback r) → IsQuietUntil until work announced stage last feedback r
+quiet_until zero work announced stage last feedback r known = tt
+quiet_until (suc until) work announced stage last feedback r known = known (omega arith)
 
 -- a time after 0 is kept as a number
 time_kept : (work : Option ℕ) → IsBefore work 0 → time_of (or_none work) ≡ work
@@ -168,8 +168,8 @@ time_kept (Some (suc n)) before =
 -- a stream that had no unit and nothing to request, and of which no packet left
 pub rests_until : (now until kept : ℕ) (work : Option ℕ) (r : Receiver) (s t : StreamState) → PopsGated now r None s.receiver → RestsBy {U = Release} s.stage now s steps.Nothing t
     → length t.receiver.packets.buffer.held ≡ length r.packets.buffer.held → work ≡ work_deadline t → kept ≡ or_none work → RestsUntil until now t
-    → IsQuietUntil until (time_of kept) t.told t.stage t.last t.feedback t.receiver
-rests_until now until kept work r s t popped rests same work_is kept_is can = quiet_until until (time_of kept) t.told t.stage t.last t.feedback t.receiver (λ some. record {
+    → IsQuietUntil until (time_of kept) t.announced t.stage t.last t.feedback t.receiver
+rests_until now until kept work r s t popped rests same work_is kept_is can = quiet_until until (time_of kept) t.announced t.stage t.last t.feedback t.receiver (λ some. record {
   work_is =
       let it : Rests now 0 t = can 0 some in
       ap time_of kept_is ∙ (time_kept work (subst (λ (w : Option ℕ). IsBefore w 0) (sym work_is) it.before) ∙ work_is);
@@ -179,7 +179,7 @@ rests_until now until kept work r s t popped rests same work_is kept_is can = qu
       let asked : Asked now s t = rested_by s.stage now s t refl rests it.plays in
       let pops : PopsGated now r None t.receiver = subst (λ (x : Receiver). PopsGated now r None x) (sym asked.0) popped in
       record {
-        is_told = it.is_told;
+        is_announced = it.is_announced;
         plays = it.plays;
         pops = receiver_rests now later r t.receiver pops same it.few both.0;
         asks = asked.1 later it.asks (subst (λ (g : Stage). IsBefore (request_deadline g t.feedback) later) it.plays both.1);
@@ -195,7 +195,7 @@ seen s = record {
   format = s.format;
   receiver = s.receiver;
   stage = s.stage;
-  told = s.told;
+  announced = s.announced;
   taken = s.taken;
   accepted = s.accepted;
   bytes = s.bytes;

@@ -11,13 +11,13 @@ asks_stay : (feedback : Option Asking) (now last : ℕ) (r : Receiver) (x : Rece
 asks_stay None now last r x asks = tt
 asks_stay (Some a) now last r x asks = asks
 
-pub quiet_stays : (until : ℕ) (work : Option ℕ) (told : Bool) (stage : Stage) (last : ℕ) (feedback : Option Asking) (r : Receiver) (x : Reception)
-    → IsQuietUntil until work told stage last feedback r → IsQuietUntil until work told stage last feedback (record r { reception = x })
-quiet_stays zero work told stage last feedback r x quiet = tt
-quiet_stays (suc until) work told stage last feedback r x known = record {
+pub quiet_stays : (until : ℕ) (work : Option ℕ) (announced : Bool) (stage : Stage) (last : ℕ) (feedback : Option Asking) (r : Receiver) (x : Reception)
+    → IsQuietUntil until work announced stage last feedback r → IsQuietUntil until work announced stage last feedback (record r { reception = x })
+quiet_stays zero work announced stage last feedback r x quiet = tt
+quiet_stays (suc until) work announced stage last feedback r x known = record {
   work_is = known.work_is;
   quiet = λ now less. record {
-    is_told = (known.quiet now less).is_told;
+    is_announced = (known.quiet now less).is_announced;
     plays = (known.quiet now less).plays;
     pops = (known.quiet now less).pops;
     asks = asks_stay feedback now last r x (known.quiet now less).asks;

@@ -23,17 +23,17 @@ use Rattle.codec_payload_session_stream.proofs.SkipLemmas.{quiet_before, quiet_s
 
 -- a stream that sleeps has no event
 pub asleep_steps : (now : Ticks) (idle : ℕ) (s : StreamState) → IsAsleep now.0 idle s → Steps now idle s steps.Nothing s
-asleep_steps now idle s (inl probing) = subst (λ (b : Bool). StepsBy b s.told now idle s steps.Nothing s) (sym probing) (refl, refl)
+asleep_steps now idle s (inl probing) = subst (λ (b : Bool). StepsBy b s.announced now idle s steps.Nothing s) (sym probing) (refl, refl)
 asleep_steps now idle s (inr quiet) = quiet_steps now idle s (grind (arith, nat_tests, quiet.1)) quiet.0
 
 -- a time that says nothing
 pub from_zero : (idle : ℕ) (s : StreamState) → WakesAt idle 0 s
 from_zero idle s = record { sleeps = λ now before. absurd (omega (arith, before)); due = omega arith }
 
-pub wakes_quiet : (until idle_at idle at key : ℕ) (work : Option ℕ) (s : StreamState) → IsQuietUntil until work s.told s.stage s.last s.feedback s.receiver → 0 < idle → idle_at ≤ s.last + idle
+pub wakes_quiet : (until idle_at idle at key : ℕ) (work : Option ℕ) (s : StreamState) → IsQuietUntil until work s.announced s.stage s.last s.feedback s.receiver → 0 < idle → idle_at ≤ s.last + idle
     → at ≡ min (min until idle_at) key → key ≡ key_of (due_of idle s) → WakesAt idle at s
 wakes_quiet until idle_at idle at key work s quiet some idle_is is due = record {
-  sleeps = λ now before. inr (quiet_before until now work s.told s.stage s.last s.feedback s.receiver (omega (arith, before, is)) quiet, omega (arith, before, is, idle_is, some));
+  sleeps = λ now before. inr (quiet_before until now work s.announced s.stage s.last s.feedback s.receiver (omega (arith, before, is)) quiet, omega (arith, before, is, idle_is, some));
   due = omega (arith, is, due);
 }
 

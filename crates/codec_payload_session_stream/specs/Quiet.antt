@@ -18,8 +18,8 @@ AsksNothing None now last r = Unit {0}
 AsksNothing (Some a) now last r = Asks now (is_heard now last a) r a (Ok None) a
 
 -- an announced stream that plays has neither a unit nor a request at this time
-pub record IsQuiet (now : ℕ) (told : Bool) (stage : Stage) (last : ℕ) (feedback : Option Asking) (r : Receiver) : Type 0 where
-  pub is_told : told ≡ true
+pub record IsQuiet (now : ℕ) (announced : Bool) (stage : Stage) (last : ℕ) (feedback : Option Asking) (r : Receiver) : Type 0 where
+  pub is_announced : announced ≡ true
   pub plays : stage ≡ stages.Playing
   pub pops : PopsNothing now r.packets
   pub asks : AsksNothing feedback now last r
@@ -33,14 +33,14 @@ or_none None = 0
 or_none (Some at) = at
 
 -- the same for each time before `until`; `work` is the time at which the stream may have a unit, or a request is due
-pub record IsKnown (until : ℕ) (work : Option ℕ) (told : Bool) (stage : Stage) (last : ℕ) (feedback : Option Asking) (r : Receiver) : Type 0 where
+pub record IsKnown (until : ℕ) (work : Option ℕ) (announced : Bool) (stage : Stage) (last : ℕ) (feedback : Option Asking) (r : Receiver) : Type 0 where
   pub work_is : work ≡ earlier (deadline_of r.packets) (request_deadline stage feedback)
-  pub quiet : (now : ℕ) → now < until → IsQuiet now told stage last feedback r
+  pub quiet : (now : ℕ) → now < until → IsQuiet now announced stage last feedback r
 
 -- with 0 nothing is known
 abbrev pub IsQuietUntil : ℕ → Option ℕ → Bool → Stage → ℕ → Option Asking → Receiver → Type 0
-IsQuietUntil zero work told stage last feedback r = Unit {0}
-IsQuietUntil (suc until) work told stage last feedback r = IsKnown (suc until) work told stage last feedback r
+IsQuietUntil zero work announced stage last feedback r = Unit {0}
+IsQuietUntil (suc until) work announced stage last feedback r = IsKnown (suc until) work announced stage last feedback r
 
 -- ---- when it is known
 
@@ -55,7 +55,7 @@ IsBefore (Some at) now = now < at
 
 -- if the stream had nothing at `now`, it has nothing later
 pub record Rests (now later : ℕ) (s : StreamState) : Type 0 where
-  pub is_told : s.told ≡ true
+  pub is_announced : s.announced ≡ true
   pub plays : s.stage ≡ stages.Playing
   pub few : later < 2 ^ 64
   pub before : IsBefore (work_deadline s) later

@@ -52,7 +52,7 @@ pub record StreamState : Type 0 where
   pub format : Format
   pub receiver : Receiver
   pub stage : Stage
-  pub told : Bool
+  pub announced : Bool
   pub taken : ℕ
   pub accepted : ℕ
   pub bytes : ℕ
@@ -74,7 +74,7 @@ pub record Begins (settings : SessionSettings) (ssrc : ℕ) (f : Format) (s : St
   pub ssrc_is : s.ssrc ≡ ssrc
   pub format : s.format ≡ f
   pub stage : s.stage ≡ stages.Probation
-  pub told : s.told ≡ false
+  pub announced : s.announced ≡ false
   pub taken : s.taken ≡ 0
   pub accepted : s.accepted ≡ 0
   pub bytes : s.bytes ≡ 0
@@ -180,7 +180,7 @@ Takes now probation bytes s answer t =
 
 -- the stream is announced, and has the names of this sender under another SSRC
 abbrev pub is_former : ℕ → StreamNames → StreamState → Bool
-is_former ssrc names s = s.told && not (s.ssrc == ssrc) && are_of_one names s.names
+is_former ssrc names s = s.announced && not (s.ssrc == ssrc) && are_of_one names s.names
 
 -- ---- the end
 
@@ -284,13 +284,13 @@ abbrev pub Plays : Ticks → ℕ → StreamState → Step → StreamState → Ty
 Plays now idle s answer t = (mid : StreamState) × Drains (end_of now.0 idle s) s mid × Pops now mid answer t
 
 abbrev pub StepsBy : Bool → Bool → Ticks → ℕ → StreamState → Step → StreamState → Type 0
-StepsBy true told now idle s answer t = (answer ≡ steps.Nothing) × (t ≡ s)
-StepsBy false false now idle s answer t = (answer ≡ steps.Begun) × (t ≡ record s { told = true })
+StepsBy true announced now idle s answer t = (answer ≡ steps.Nothing) × (t ≡ s)
+StepsBy false false now idle s answer t = (answer ≡ steps.Begun) × (t ≡ record s { announced = true })
 StepsBy false true now idle s answer t = Plays now idle s answer t
 
 -- the next event of the stream: none in probation, and its beginning before all other events
 abbrev pub Steps : Ticks → ℕ → StreamState → Step → StreamState → Type 0
-Steps now idle s answer t = StepsBy (is_probation s.stage) s.told now idle s answer t
+Steps now idle s answer t = StepsBy (is_probation s.stage) s.announced now idle s answer t
 
 -- ---- a keyframe that the caller asks for
 
@@ -327,15 +327,15 @@ earlier None b = b
 earlier (Some a) None = Some a
 earlier (Some a) (Some b) = Some (min a b)
 
-abbrev pub due_told : Bool → Option ℕ → Option ℕ → Option ℕ
-due_told false end deadline = Some 0
-due_told true end deadline = earlier end deadline
+abbrev pub due_announced : Bool → Option ℕ → Option ℕ → Option ℕ
+due_announced false end deadline = Some 0
+due_announced true end deadline = earlier end deadline
 
 abbrev pub due_by : ℕ → Bool → Option ℕ → ℕ → Stage → Option ℕ
-due_by idle told deadline last stages.Probation = None
-due_by idle told deadline last stages.Playing = due_told told (later last idle) deadline
-due_by idle told deadline last (stages.Leaving why at) = due_told told (Some at) deadline
-due_by idle told deadline last (stages.Draining why) = Some 0
+due_by idle announced deadline last stages.Probation = None
+due_by idle announced deadline last stages.Playing = due_announced announced (later last idle) deadline
+due_by idle announced deadline last (stages.Leaving why at) = due_announced announced (Some at) deadline
+due_by idle announced deadline last (stages.Draining why) = Some 0
 
 -- a stream requests only while it plays
 abbrev pub request_deadline : Stage → Option Asking → Option ℕ
@@ -350,7 +350,7 @@ work_deadline s = earlier (deadline_of s.receiver.packets) (request_deadline s.s
 
 -- the time at which the stream may have an event without a datagram
 abbrev pub due_of : ℕ → StreamState → Option ℕ
-due_of idle s = due_by idle s.told (work_deadline s) s.last s.stage
+due_of idle s = due_by idle s.announced (work_deadline s) s.last s.stage
 
 -- the earliest of their times
 abbrev pub due_in : ℕ → List StreamState → Option ℕ

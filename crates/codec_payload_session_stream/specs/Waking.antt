@@ -15,7 +15,7 @@ use Rattle.codec_payload_session_stream.specs.declared.waking.Waking.{Waking}
 
 -- the stream is in probation, or it is quiet and not idle: it has no event at this time, and nothing changes
 abbrev pub IsAsleep : ℕ → ℕ → StreamState → Type 0
-IsAsleep now idle s = (is_probation s.stage ≡ true) ⊎ IsQuiet now s.told s.stage s.last s.feedback s.receiver × (now - s.last < idle)
+IsAsleep now idle s = (is_probation s.stage ≡ true) ⊎ IsQuiet now s.announced s.stage s.last s.feedback s.receiver × (now - s.last < idle)
 
 -- the same at each time before this one, and no deadline comes earlier
 pub record WakesAt (idle at : ℕ) (s : StreamState) : Type 0 where

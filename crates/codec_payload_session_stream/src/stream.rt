@@ -50,7 +50,7 @@ pub enum Ending {
     /// No datagram arrived for the idle timeout.
     Timeout,
     /// The caller ended it.
-    Told,
+    ByCall,
     /// Its sender continues in another format under the same SSRC, or its format is gone ([`Session::set_formats`]).
     ///
     /// [`Session::set_formats`]: codec_payload_session::session::Session::set_formats
@@ -102,7 +102,7 @@ pub struct StreamState {
     pub receiver: NamedReceiver,
     pub stage: Stage,
     /// Whether the stream was announced.
-    pub told: bool,
+    pub announced: bool,
     pub taken: u64,
     /// How many of these datagrams were accepted.
     pub(crate) accepted: u64,
@@ -141,7 +141,7 @@ impl Model for StreamState {
       format = s.format;
       receiver = s.receiver;
       stage = s.stage;
-      told = s.told;
+      announced = s.announced;
       taken = s.taken;
       accepted = s.accepted;
       bytes = s.bytes;
@@ -154,7 +154,7 @@ impl Model for StreamState {
       names = s.names;
     } };
 
-    ghost invariant = { λ s. IsQuietUntil s.quiet_until (time_of s.work) s.told s.stage s.last s.feedback s.receiver };
+    ghost invariant = { λ s. IsQuietUntil s.quiet_until (time_of s.work) s.announced s.stage s.last s.feedback s.receiver };
 }
 
 /// A step of a stream: its next event, or nothing. `U` is what it carries of a unit.
@@ -205,7 +205,7 @@ impl StreamState {
             format: *format,
             receiver,
             stage: Stage::Probation,
-            told: false,
+            announced: false,
             taken: 0,
             accepted: 0,
             bytes: 0,
@@ -374,7 +374,7 @@ impl StreamState {
     pub fn is_former(&self, ssrc: u32, names: &StreamNames) -> bool
         ensures { result ≡ is_former ssrc names.now self.now }
     {
-        self.told && self.ssrc != ssrc && names.are_of_one(&self.names)
+        self.announced && self.ssrc != ssrc && names.are_of_one(&self.names)
     }
 
     /// Returns whether the sender left the stream for this format: it took no datagram for `wait` ticks.
@@ -485,9 +485,9 @@ impl StreamState {
         if is_probation(self.stage) {
             return Step::Nothing;
         }
-        if !self.told {
+        if !self.announced {
             self.quiet_until = 0;
-            self.told = true;
+            self.announced = true;
             return Step::Begun;
         }
         self.drain(now.0, idle_timeout);
@@ -497,7 +497,7 @@ impl StreamState {
     /// Returns the next unit or refused frame of the stream, or what follows without one.
     #[inline(always)]
     fn pop(&mut self, now: Ticks, unit: &mut PoppedUnit) -> Step<()>
-        requires told { self.old.told ≡ true }
+        requires announced { self.old.announced ≡ true }
         ensures { Pops now self.old (step_to result unit.new) self.new }
     {
         self.quiet_until = 0;
@@ -544,7 +544,7 @@ impl StreamState {
         requires calm { calm ≡ true → IsCalm self.now.feedback self.now.receiver }
         ensures { RestsUntil result now.0 self.now }
     {
-        if !self.told || !is_playing(self.stage) {
+        if !self.announced || !is_playing(self.stage) {
             return 0;
         }
         let rest = rest_time(&self.feedback, now, self.last, self.receiver.inner(), calm);
@@ -615,7 +615,7 @@ impl StreamState {
             Stage::Playing => self.last.checked_add(idle_timeout),
             Stage::Leaving(_, at) => Some(at),
         };
-        if !self.told {
+        if !self.announced {
             return Some(0);
         }
         earlier(end, self.work_deadline())

@@ -27,7 +27,7 @@ pub(crate) struct Unpaired {
 }
 
 /// Receives a datagram. If it is a retransmission whose SSRC is in no pair and exactly one stream fits, that pair is added first.
-pub(crate) fn take_in(
+pub(crate) fn receive_or_associate(
     settings: &mut SessionSettings,
     streams: &mut Streams,
     now: Ticks,
@@ -48,7 +48,8 @@ pub(crate) fn take_in(
     }
 }
 
-/// Receives a datagram for which a pair was added. It is rare, and writes the answer to `again`, so that `take_in` is inlined once.
+/// Receives a datagram for which a pair was added. It is rare, and writes the answer to `again`, so that `Streams::take_in` is
+/// inlined once.
 #[inline(never)]
 fn take_in_again(
     settings: &SessionSettings,

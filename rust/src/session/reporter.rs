@@ -135,7 +135,7 @@ fn due_after(
 /// Returns whether a stream is announced.
 fn any_announced(streams: &[StreamState]) -> bool {
     for stream in streams {
-        if stream.told {
+        if stream.announced {
             return true;
         }
     }
@@ -145,7 +145,7 @@ fn any_announced(streams: &[StreamState]) -> bool {
 /// Returns whether a stream of the SSRC is announced.
 fn has_announced(streams: &[StreamState], ssrc: u32) -> bool {
     for stream in streams {
-        if stream.told && stream.ssrc == ssrc {
+        if stream.announced && stream.ssrc == ssrc {
             return true;
         }
     }
@@ -155,7 +155,7 @@ fn has_announced(streams: &[StreamState], ssrc: u32) -> bool {
 /// Returns whether the stream at this place is reported: it is announced, and no later announced stream has its SSRC.
 fn is_reported(streams: &[StreamState], place: usize) -> bool {
     let stream = &streams[place];
-    stream.told && !has_announced(&streams[place + 1..], stream.ssrc)
+    stream.announced && !has_announced(&streams[place + 1..], stream.ssrc)
 }
 
 /// Returns whether the stream at this place is due: it is reported, and this round had no block about it.

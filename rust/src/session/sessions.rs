@@ -9,7 +9,7 @@ use crate::jitter::jitter_buffer::WaitLimits;
 use crate::memory::AllocError;
 use crate::rtcp::items::ReportBlock;
 pub use crate::session::arrival::Arrival;
-use crate::session::association::{add_pair, take_in};
+use crate::session::association::{add_pair, receive_or_associate};
 use crate::session::checks::SessionSettingsError;
 pub use crate::session::events::Event;
 use crate::session::events::{report_event, transport_event, with_unit};
@@ -170,7 +170,7 @@ impl Session {
         datagram: &ParsedDatagram<'_>,
     ) -> Result<Arrival, AllocError> {
         let noted = self.telephone.note(&self.settings, datagram)?;
-        let answer = take_in(&mut self.settings, &mut self.streams, now, datagram);
+        let answer = receive_or_associate(&mut self.settings, &mut self.streams, now, datagram);
         self.telephone.settle(noted, &answer);
         self.counts.count(&answer);
         answer
@@ -282,7 +282,7 @@ impl Session {
 
     /// Ends the streams of this SSRC: polls return the units that are complete, and then `Ended`.
     pub fn end(&mut self, now: Ticks, ssrc: u32) {
-        self.streams.leave(Who::Of(ssrc), Ending::Told, now.0);
+        self.streams.leave(Who::Of(ssrc), Ending::ByCall, now.0);
     }
 
     /// Ends all streams, announced or not. From now on no stream begins.

@@ -36,7 +36,7 @@ pub enum Ending {
     /// No datagram arrived for the idle timeout.
     Timeout,
     /// The caller ended it.
-    Told,
+    ByCall,
     /// Its sender continues in another format under the same SSRC, or its format is gone ([`Session::set_formats`]).
     ///
     /// [`Session::set_formats`]: crate::session::sessions::Session::set_formats
@@ -89,7 +89,7 @@ pub(crate) struct StreamState {
     pub receiver: NamedReceiver,
     pub stage: Stage,
     /// Whether the stream was announced.
-    pub told: bool,
+    pub announced: bool,
     pub taken: u64,
     /// How many of these datagrams were accepted.
     pub(crate) accepted: u64,
@@ -159,7 +159,7 @@ impl StreamState {
             format: *format,
             receiver,
             stage: Stage::Probation,
-            told: false,
+            announced: false,
             taken: 0,
             accepted: 0,
             bytes: 0,
@@ -302,7 +302,7 @@ impl StreamState {
 
     /// Returns whether the stream is announced, and has the names of this sender under another SSRC.
     pub(crate) fn is_former(&self, ssrc: u32, names: &StreamNames) -> bool {
-        self.told && self.ssrc != ssrc && names.are_of_one(&self.names)
+        self.announced && self.ssrc != ssrc && names.are_of_one(&self.names)
     }
 
     /// Returns whether the sender left the stream for this format: it took no datagram for `wait` ticks.
@@ -397,9 +397,9 @@ impl StreamState {
         if is_probation(self.stage) {
             return Step::Nothing;
         }
-        if !self.told {
+        if !self.announced {
             self.quiet_until = 0;
-            self.told = true;
+            self.announced = true;
             return Step::Begun;
         }
         self.drain(now.0, idle_timeout);
@@ -447,7 +447,7 @@ impl StreamState {
     /// `work` is its `work_deadline`, and `calm` says that nothing is to be requested.
     #[inline(always)]
     fn quiet_time(&self, now: Ticks, work: Option<u64>, calm: bool) -> u64 {
-        if !self.told || !is_playing(self.stage) {
+        if !self.announced || !is_playing(self.stage) {
             return 0;
         }
         let rest = rest_time(&self.feedback, now, self.last, self.receiver.inner(), calm);
@@ -506,7 +506,7 @@ impl StreamState {
             Stage::Playing => self.last.checked_add(idle_timeout),
             Stage::Leaving(_, at) => Some(at),
         };
-        if !self.told {
+        if !self.announced {
             return Some(0);
         }
         earlier(end, self.work_deadline())

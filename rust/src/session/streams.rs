@@ -484,7 +484,7 @@ impl Streams {
     pub(crate) fn finish(&mut self, at: u64) {
         self.finished = true;
         self.waking.forget();
-        leave(&mut self.list, Who::All, Ending::Told, at);
+        leave(&mut self.list, Who::All, Ending::ByCall, at);
     }
 }
 

@@ -215,7 +215,7 @@ impl Model {
     fn finish(&mut self, now: u64) {
         self.finished = true;
         for stream in &mut self.streams {
-            stream.leave(Ending::Told, now);
+            stream.leave(Ending::ByCall, now);
         }
     }
 
@@ -638,7 +638,7 @@ impl Both {
             0 => {
                 let ssrc = sender(&mut self.dice, &self.latest);
                 self.session.end(Ticks(self.now), ssrc);
-                self.model.leave(&[ssrc], Ending::Told, self.now);
+                self.model.leave(&[ssrc], Ending::ByCall, self.now);
             }
             1 => self.now += u64::from(self.dice.below(1_500)),
             2 => {
@@ -703,7 +703,7 @@ fn a_session_is_its_plain_model() {
         "begins",
         "Bye",
         "Timeout",
-        "Told",
+        "ByCall",
         "refused",
         "unassociated",
         "ended",
@@ -727,7 +727,7 @@ fn a_session_of_many_streams_is_its_plain_model() {
     let mut seen = BTreeMap::new();
     (0..20).for_each(|seed| run(seed, 60, 4_000, &mut seen));
     println!("{seen:?}");
-    for name in ["begins", "Bye", "Timeout", "Told", "refused", "requested"] {
+    for name in ["begins", "Bye", "Timeout", "ByCall", "refused", "requested"] {
         assert!(
             seen.get(name).is_some_and(|count| *count > 100),
             "{name}: {seen:?}"

@@ -94,7 +94,7 @@ fn two_streams() -> Result<(), Fail> {
             "begun",
             "unit [9, 7]",
             "unit [10, 7]",
-            "ended Told"
+            "ended ByCall"
         ]
     );
     let counts = made.run.counts;
@@ -175,7 +175,7 @@ fn every_call() -> Result<(), Fail> {
         run.answers[4],
         StepAnswer::KeyframeAsked(KeyframeAnswer::NotNegotiated)
     ));
-    assert_eq!(lines(1, &run), ["begun", "unit [1, 7]", "ended Told"]);
+    assert_eq!(lines(1, &run), ["begun", "unit [1, 7]", "ended ByCall"]);
     assert_eq!((run.counts.received, run.counts.ended), (1, 1));
     Ok(())
 }

@@ -200,11 +200,11 @@ fn finish_gives_all() -> Result<(), Fail> {
         [
             "begun 5 111",
             "unit 5 [1, 7]",
-            "ended 5 Told",
+            "ended 5 ByCall",
             "begun 6 111",
             "unit 6 [1, 7]",
             "unit 6 [3, 7]",
-            "ended 6 Told"
+            "ended 6 ByCall"
         ]
     );
     assert_eq!((session.stream_count(), session.next_deadline()), (0, None));
@@ -223,7 +223,7 @@ fn the_caller_ends_one_ssrc() -> Result<(), Fail> {
         [
             "begun 5 111",
             "unit 5 [1, 7]",
-            "ended 5 Told",
+            "ended 5 ByCall",
             "begun 6 111",
             "unit 6 [1, 7]"
         ]

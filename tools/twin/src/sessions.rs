@@ -180,7 +180,7 @@ fn told(event: Event) -> ([u64; 12], Vec<u8>, Option<String>) {
             it[4] = match why {
                 Ending::Bye => 0,
                 Ending::Timeout => 1,
-                Ending::Told => 2,
+                Ending::ByCall => 2,
                 Ending::Changed => 3,
                 _ => unreachable!("this version has no other"),
             };

@@ -10,6 +10,6 @@ invariant_of-self c =
     record {
       usable = c.self.invariant.usable;
       port = subst (λ (p : Port). IsPort c.self.inside.settings p c.self.inside.counts) (sym c.finish.ensures)
-          (left_keeps c.self.inside.settings c.self.inside.counts everyone endings.Told c.args.now.0 true c.self.inside.streams c.self.invariant.port);
+          (left_keeps c.self.inside.settings c.self.inside.counts everyone endings.ByCall c.args.now.0 true c.self.inside.streams c.self.invariant.port);
       few = c.self.invariant.few;
     }

@@ -19,27 +19,27 @@ invariant_of-self c = record {
 
 pub invariant_of-self-2 : goal.invariant_of-self-2
 invariant_of-self-2 c =
-    let taken : Bool = is_without_media c.take_in-answer.result in
+    let taken : Bool = is_without_media c.receive_or_associate-answer.result in
     let told : Option Packet = telephone_at c.self.inside.settings c.args.datagram.now in
     let pair : Option SsrcPair = pair_at c.self.inside.settings c.args.now.0 c.args.datagram.now c.self.inside.streams.streams in
     record {
-      usable = takes_usable pair c.args.now c.args.datagram.now c.self.inside.settings c.self.inside.streams c.take_in-answer.result c.take_in-answer.new.settings c.take_in-answer.new.streams
-          c.take_in-answer.ensures c.self.invariant.usable;
-      port = subst (λ (n : ArrivalCounts). IsPort c.take_in-answer.new.settings c.take_in-answer.new.streams n) (sym c.count.ensures)
-          (takes_in_by_keeps pair c.args.now c.args.datagram.now c.self.inside.settings c.self.inside.streams c.take_in-answer.result c.take_in-answer.new.settings c.take_in-answer.new.streams
-          c.self.inside.counts c.take_in-answer.ensures c.self.invariant.port);
+      usable = takes_usable pair c.args.now c.args.datagram.now c.self.inside.settings c.self.inside.streams c.receive_or_associate-answer.result c.receive_or_associate-answer.new.settings c.receive_or_associate-answer.new.streams
+          c.receive_or_associate-answer.ensures c.self.invariant.usable;
+      port = subst (λ (n : ArrivalCounts). IsPort c.receive_or_associate-answer.new.settings c.receive_or_associate-answer.new.streams n) (sym c.count.ensures)
+          (takes_in_by_keeps pair c.args.now c.args.datagram.now c.self.inside.settings c.self.inside.streams c.receive_or_associate-answer.result c.receive_or_associate-answer.new.settings c.receive_or_associate-answer.new.streams
+          c.self.inside.counts c.receive_or_associate-answer.ensures c.self.invariant.port);
       few = stay_few taken told c.self.inside.telephone c.settle.new.self
           (queues_settled taken told c.self.inside.telephone c.in_ok-noted.noted c.note.new.self c.settle.new.self c.in_ok-noted.ensures.ok c.settle.ensures) c.self.invariant.few;
     }
 
 pub returns : goal.returns
 returns c =
-    let taken : Bool = is_without_media c.take_in-answer.result in
+    let taken : Bool = is_without_media c.receive_or_associate-answer.result in
     let told : Option Packet = telephone_at c.self.inside.settings c.args.datagram.now in
     let s : Session = record { settings = c.self.inside.settings; port = c.self.inside.streams; counts = c.self.inside.counts; telephone = c.self.inside.telephone; report_due = c.self.inside.report_due; transport = c.self.inside.transport } in
-    let t : Session = record { settings = c.take_in-answer.new.settings; port = c.take_in-answer.new.streams; counts = c.count.new.self; telephone = c.settle.new.self; report_due = c.self.inside.report_due; transport = c.self.inside.transport } in
+    let t : Session = record { settings = c.receive_or_associate-answer.new.settings; port = c.receive_or_associate-answer.new.streams; counts = c.count.new.self; telephone = c.settle.new.self; report_due = c.self.inside.report_due; transport = c.self.inside.transport } in
     let pair : Option SsrcPair = pair_at c.self.inside.settings c.args.now.0 c.args.datagram.now c.self.inside.streams.streams in
-    subst (λ (x : Session). Associates c.args.now c.args.datagram.now x c.take_in-answer.result t) c.self.view_is
-    (subst (λ (n : ArrivalCounts). AssociatesBy pair c.args.now c.args.datagram.now s c.take_in-answer.result (record t { counts = n })) (sym c.count.ensures)
-    (associates pair c.args.now c.args.datagram.now s c.take_in-answer.result c.take_in-answer.new.settings c.take_in-answer.new.streams c.settle.new.self c.take_in-answer.ensures
+    subst (λ (x : Session). Associates c.args.now c.args.datagram.now x c.receive_or_associate-answer.result t) c.self.view_is
+    (subst (λ (n : ArrivalCounts). AssociatesBy pair c.args.now c.args.datagram.now s c.receive_or_associate-answer.result (record t { counts = n })) (sym c.count.ensures)
+    (associates pair c.args.now c.args.datagram.now s c.receive_or_associate-answer.result c.receive_or_associate-answer.new.settings c.receive_or_associate-answer.new.streams c.settle.new.self c.receive_or_associate-answer.ensures
     (queues_settled taken told c.self.inside.telephone c.in_ok-noted.noted c.note.new.self c.settle.new.self c.in_ok-noted.ensures.ok c.settle.ensures)))

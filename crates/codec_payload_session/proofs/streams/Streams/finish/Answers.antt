@@ -8,5 +8,5 @@ use Rattle.codec_payload_session.proofs.streams.Streams.finish.Goals as goal
 
 pub invariant_of-self : goal.invariant_of-self
 invariant_of-self c =
-    let same = ap ssrcs_of c.leave.ensures ∙ same_mapped (left_if (includes whos.All) endings.Told c.args.at) c.deref_mut.result.now (λ s. left_ssrc (includes whos.All s.ssrc) endings.Told c.args.at s) ∙ ap ssrcs_of c.deref_mut.ensures.value in
+    let same = ap ssrcs_of c.leave.ensures ∙ same_mapped (left_if (includes whos.All) endings.ByCall c.args.at) c.deref_mut.result.now (λ s. left_ssrc (includes whos.All s.ssrc) endings.ByCall c.args.at s) ∙ ap ssrcs_of c.deref_mut.ensures.value in
     forgotten c.forget.new.self c.self.inside.ssrcs c.self.inside.list c.leave.new.streams c.forget.ensures c.self.invariant.listed same

@@ -31,8 +31,8 @@ invariant_of-self-then-held c =
 pub invariant_of-self-in-Some : goal.invariant_of-self-in-Some
 invariant_of-self-in-Some c =
     let t : StreamState = record (seen c.self.inside) { receiver = c.pop_unit.new.self; feedback = c.answer_if.new.feedback } in
-    let told : t.told ≡ true = ap (λ (s : StreamState). s.told) c.self.view_is ∙ c.requires.told in
-    quiet_after c.args.now.0 c.until_if-until.result 18446744073709551615 c.is_done.result c.self.inside.receiver (result_with c.in-Some.popped c.pop_unit.new.unit) t c.in-Some.ensures.pops told c.is_done.ensures
+    let announced : t.announced ≡ true = ap (λ (s : StreamState). s.announced) c.self.view_is ∙ c.requires.announced in
+    quiet_after c.args.now.0 c.until_if-until.result 18446744073709551615 c.is_done.result c.self.inside.receiver (result_with c.in-Some.popped c.pop_unit.new.unit) t c.in-Some.ensures.pops announced c.is_done.ensures
     c.until_if-until.ensures
 
 pub returns-in-Some : goal.returns-in-Some

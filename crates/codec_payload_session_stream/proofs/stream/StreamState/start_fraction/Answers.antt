@@ -7,7 +7,7 @@ use Rattle.codec_payload_session_stream.proofs.stream.StreamState.start_fraction
 
 pub invariant_of-self : goal.invariant_of-self
 invariant_of-self c =
-    subst (λ (r : Receiver). IsQuietUntil c.self.inside.quiet_until (time_of c.self.inside.work) c.self.inside.told c.self.inside.stage c.self.inside.last c.self.inside.feedback r)
+    subst (λ (r : Receiver). IsQuietUntil c.self.inside.quiet_until (time_of c.self.inside.work) c.self.inside.announced c.self.inside.stage c.self.inside.last c.self.inside.feedback r)
     (sym c.report.ensures.after)
-    (quiet_stays c.self.inside.quiet_until (time_of c.self.inside.work) c.self.inside.told c.self.inside.stage c.self.inside.last c.self.inside.feedback c.self.inside.receiver
+    (quiet_stays c.self.inside.quiet_until (time_of c.self.inside.work) c.self.inside.announced c.self.inside.stage c.self.inside.last c.self.inside.feedback c.self.inside.receiver
     (reported c.self.inside.receiver.reception) c.self.invariant)

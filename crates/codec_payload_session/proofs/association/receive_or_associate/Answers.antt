@@ -2,7 +2,7 @@ use Rattle.std.proofs.Common.{◌≡◌, ◌∙◌, Option, false, refl, subst, 
 use Rattle.codec_payload_session.specs.Associations.{TakesInBy, is_unassociated}
 use Rattle.codec_payload_session_formats.specs.declared.formats.SsrcPair.{SsrcPair}
 use Rattle.codec_payload_session.proofs.AssociationLemmas.{no_pair}
-use Rattle.codec_payload_session.proofs.association.take_in.Goals as goal
+use Rattle.codec_payload_session.proofs.association.receive_or_associate.Goals as goal
 
 pub returns-then-not-is_unassociated : goal.returns-then-not-is_unassociated
 returns-then-not-is_unassociated c =
