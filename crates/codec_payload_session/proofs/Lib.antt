@@ -5,6 +5,7 @@ mod CheckLemmas
 mod GoodbyeLemmas
 mod IdleLemmas
 mod KeyframeLemmas
+mod OnlyLemmas
 mod PacketLemmas
 mod PacketsLemmas
 mod PairLemmas

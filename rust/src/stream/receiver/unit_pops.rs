@@ -52,6 +52,10 @@ impl<B: Depacketizer> Receiver<B> {
     ) -> (Option<Result<(), PacketError>>, bool) {
         let left = self.packets.counters().left;
         let answer = self.packets.pop_unit(now, unit);
+        let has_left = self.packets.counters().left != left;
+        if answer.is_none() && !has_left {
+            return (answer, true);
+        }
         let mut references = UnitReferences::none();
         take_notes_in(&mut self.notes, &answer, unit, &mut references);
         if self.bound.note_in(&answer, unit) {
@@ -59,7 +63,6 @@ impl<B: Depacketizer> Receiver<B> {
             return (answer, true);
         }
         extend_to(&mut self.times, &answer, unit);
-        let has_left = self.packets.counters().left != left;
         let is_passed = follow_to(&mut self.gates, &answer, unit, &references, has_left);
         (answer, is_passed)
     }
