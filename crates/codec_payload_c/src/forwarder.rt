@@ -7,7 +7,7 @@ ghost use Rattle.codec_payload_handle.specs.Numbers.{TellsNumber};
 
 use codec_payload_c_packets::forwarder::{
     ForwarderCountsInfo, ForwarderSettings, counts_of, forwarder_by, leave_out, report_of,
-    resend_from, tell, write,
+    resend_from, write, write_number,
 };
 use codec_payload_c_packets::sender::SenderReportInfo;
 use codec_payload_handle::handle::Handle;
@@ -117,7 +117,7 @@ pub extern "C" fn cpay_forwarder_source(alloc: Global, handle: &mut Handle, ssrc
         return status::EMPTY;
     };
     let answer = match &mut *object {
-        Object::PacketForwarder(viewer) => tell(viewer.forwarder.source(), ssrc),
+        Object::PacketForwarder(viewer) => write_number(viewer.forwarder.source(), ssrc),
         _ => status::OTHER_KIND,
     };
     handle.put(object);
@@ -135,7 +135,7 @@ pub extern "C" fn cpay_forwarder_wanted(alloc: Global, handle: &mut Handle, ssrc
         return status::EMPTY;
     };
     let answer = match &mut *object {
-        Object::PacketForwarder(viewer) => tell(viewer.forwarder.wanted(), ssrc),
+        Object::PacketForwarder(viewer) => write_number(viewer.forwarder.wanted(), ssrc),
         _ => status::OTHER_KIND,
     };
     handle.put(object);

@@ -4,7 +4,7 @@ ghost use Rattle.std.specs.Prelude.{◌≡◌, ◌≢◌, Bool};
 ghost use Rattle.codec_payload_c_receiving.specs.SessionFaults.{ChecksSettings, fault_for_c};
 ghost use Rattle.codec_payload_c_receiving.specs.SessionFormats.{is_in_range};
 
-use codec_payload_c_receiving::session_faults::{SettingsFault, first_fault, tell};
+use codec_payload_c_receiving::session_faults::{SettingsFault, first_fault, write_fault};
 use codec_payload_c_receiving::session_settings::{SessionFormat, SessionSettings};
 use codec_payload_handle::status;
 use std::alloc::Global;
@@ -26,7 +26,7 @@ pub extern "C" fn cpay_session_settings_check(
     ensures unchanged { result ≢ 0 → result ≢ 37 → fault.new ≡ fault.old }
 {
     match first_fault(alloc, settings, formats, no_media) {
-        Ok(found) => tell(found, fault),
+        Ok(found) => write_fault(found, fault),
         Err(status) => status,
     }
 }

@@ -287,7 +287,7 @@ pub fn report_of(viewer: &PacketForwarder, ssrc: u32, rtp_time: u32) -> Option<S
 }
 
 /// Writes a number, if there is one.
-pub fn tell(found: Option<u32>, number: &mut u32) -> u32
+pub fn write_number(found: Option<u32>, number: &mut u32) -> u32
     ensures tells { TellsNumber found result number.old number.new }
     ensures unchanged { result ≢ 0 → number.new ≡ number.old }
 {

@@ -101,7 +101,7 @@ fn is_marked(packetizer: &mut CodecPacketizer, frame: &Payloads, place: usize, s
 }
 
 /// Describes each packet: its place, and the values for its header.
-fn tell(
+fn report_packets(
     packetizer: &mut CodecPacketizer,
     frame: &Payloads,
     cut: &FrameCut,
@@ -148,7 +148,7 @@ fn hand_over(
         return status::TOO_SMALL;
     }
     lay(&sender.frame, cut, bytes);
-    tell(&mut sender.packetizer, &sender.frame, cut, packets);
+    report_packets(&mut sender.packetizer, &sender.frame, cut, packets);
     status::OK
 }
 

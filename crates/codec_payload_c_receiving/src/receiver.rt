@@ -323,7 +323,7 @@ pub(crate) fn counts_by(receiver: &Receiver) -> ReceiverCountsInfo
     counts_from(&receiver.counters(), receiver.held(), receiver.ssrc())
 }
 
-/// Returns these counters of a receiver with this SSRC, which holds so many packets and for which no unit waits.
+/// Returns these counters of a receiver with this SSRC, which holds `held` packets and for which no unit waits.
 pub(crate) fn counts_from(counters: &Counters, held: usize, ssrc: Option<u32>) -> ReceiverCountsInfo
     ensures { result ≡ counts_from counters.now held ssrc }
 {

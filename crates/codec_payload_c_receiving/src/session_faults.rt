@@ -137,7 +137,7 @@ pub fn first_fault(
 }
 
 /// Writes the fault, if there is one, and returns the status for it.
-pub fn tell(found: Option<SettingsFault>, fault: &mut SettingsFault) -> u32
+pub fn write_fault(found: Option<SettingsFault>, fault: &mut SettingsFault) -> u32
     ensures { TellsFault found result fault.new }
 {
     match found {

@@ -1,7 +1,7 @@
 use Rattle.std.proofs.Common.{◌≡◌, ◌<◌, ℕ, Some, take, drop, slice_get}
 use Rattle.codec_payload_core.specs.Packetizers.{packetizer_state_of}
 use Rattle.codec_payload_c_packets.specs.Frames.{placed_at, rooms_in, size_with}
-use Rattle.codec_payload_c_packets.proofs.frames.tell.Given as goal
+use Rattle.codec_payload_c_packets.proofs.frames.report_packets.Given as goal
 
 -- the packets in front of this place are described, and the descriptions after it are unchanged
 abbrev pub invariant-loop-place : goal.invariant-loop-place

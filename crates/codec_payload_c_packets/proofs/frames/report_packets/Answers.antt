@@ -2,7 +2,7 @@ use Rattle.std.proofs.Common.{◌∙◌, ◌<◌, ap, arith, length}
 use Rattle.codec_payload_core.specs.Packetizers.{is_built_in, nackable_of, packetizer_state_of}
 use Rattle.codec_payload_c_packets.proofs.FrameLemmas.{behind_more, placed_is, size_left, size_more, size_split, told_more}
 use Rattle.codec_payload_c_packets.specs.Frames.{placed_at, rooms_in}
-use Rattle.codec_payload_c_packets.proofs.frames.tell.Goals as goal
+use Rattle.codec_payload_c_packets.proofs.frames.report_packets.Goals as goal
 
 pub overflow_add-packets : goal.overflow_add-packets
 overflow_add-packets c =
