@@ -1,6 +1,6 @@
 -- Pops of a receiver: the parts of the keyframe gate that they leave unchanged.
 use Rattle.std.proofs.Common.{◌≡◌, ◌∙◌, ◌==◌, ◌&&◌, ◌||◌, not, Bool, true, false, Option, Some, None, Result, Ok, Err, ℕ, ◌+◌, ◌%◌, ◌^◌, refl, sym, ap, subst, arith, length, ◌<◌, ◌≤◌}
-use Rattle.std.specs.Prelude.{⊤, is_none}
+use Rattle.std.specs.Prelude.{⊤, is_some}
 use Rattle.std.proofs.lemmas.Bool.{false≢true}
 use Rattle.codec_payload_metadata.specs.Release.{Release}
 use Rattle.codec_payload_base.specs.declared.error.PacketError.{PacketError}
@@ -141,11 +141,11 @@ nothing_once now s t packets pops stays is =
     others_after now s t None packets no_references s.notes pops (refl, refl) true refl refl
     (is ∙ ap (λ (b : Bool). record s { packets = packets; gates = without_unit s.gates b }) (sym stays))
 
-pub nothing_to : (now : ℕ) (s t : Session) (answer : Option (Result ⊤ PacketError)) (unit : Release) (packets : Receiving) → is_none answer ≡ true
+pub nothing_to : (now : ℕ) (s t : Session) (answer : Option (Result ⊤ PacketError)) (unit : Release) (packets : Receiving) → is_some answer ≡ false
     → PopsWith (waiting_at (settled s.packets) now) (settled s.packets) (popped_to answer unit) packets → has_left s.packets packets ≡ false
     → t ≡ record s { packets = packets } → PassesOnce now s (popped_to answer unit) true t
 nothing_to now s t None unit packets none pops stays is = nothing_once now s t packets pops stays is
-nothing_to now s t (Some x) unit packets none pops stays is = absurd (false≢true none)
+nothing_to now s t (Some x) unit packets none pops stays is = absurd (false≢true (sym none))
 
 and_true : (b : Bool) → (b && true) ≡ b
 and_true true = refl
