@@ -546,7 +546,8 @@ typedef struct {
     uint32_t ssrc;         /**< choose it at random (RFC 3550, section 8) */
     uint16_t first_number; /**< sequence number of the first packet; choose it at random too */
     uint8_t payload_type;  /**< 0 to 127 */
-    cpay_extension_ids extension_ids; /**< values without an id are not sent; ids must differ */
+    cpay_extension_ids extension_ids; /**< values without an id are not sent; ids must differ. A packet with an id above 14, or a value
+                                           of 0 or more than 16 bytes, has the two-byte form: docs/use/DATAGRAMS.md */
 } cpay_sender_settings;
 
 /** Creates a sender in an empty handle. CPAY_INVALID: as for cpay_packetizer_new, `payload_type` above 127, or two header
