@@ -788,10 +788,10 @@ CPAY_CHECKED cpay_status cpay_forwarder_leave_out(cpay_forwarder *forwarder, con
  * in the output buffer as it was sent under this number, or with has_rtx as a retransmission (RFC 4588, section 4), and *size is its
  * size. Or it is CPAY_RESENT_NOT_KEPT: no packet was sent under this number, it is too old, or the store does not have it. Then *size
  * is 0, and the output buffer is unchanged. Never CPAY_RESENT_TOO_SOON: limit yourself how often a number is resent, for example once
- * in a round trip. For the number of a packet of padding (CPAY_FORWARDED_FILLED) the packet that was left out is written, and not the
- * padding. The history does not change. CPAY_TOO_SMALL: the packet needs *size bytes; nothing else has changed. If the call
- * fails, the forwarder is unchanged. CPAY_EMPTY and CPAY_OTHER_KIND apply to the history too. It allocates only if a packet is larger
- * than all before it. [m] */
+ * in a round trip. For the number of a packet of padding (CPAY_FORWARDED_FILLED) the packet that was left out is written, and the
+ * viewer waits for the rest of its frame: keep padding that you send, and send it again instead. The history does not change.
+ * CPAY_TOO_SMALL: the packet needs *size bytes; nothing else has changed. If the call fails, the forwarder is unchanged. CPAY_EMPTY
+ * and CPAY_OTHER_KIND apply to the history too. It allocates only if a packet is larger than all before it. [m] */
 CPAY_CHECKED cpay_status cpay_forwarder_resend(cpay_forwarder *forwarder, cpay_history *history, uint16_t number, uint8_t *bytes,
                                                size_t bytes_len, size_t *size, cpay_resent *resent);
 
