@@ -777,7 +777,8 @@ CPAY_CHECKED cpay_status cpay_forwarder_write(cpay_forwarder *forwarder, uint64_
  * packet that comes late a packet of padding, 13 bytes, is written under its number: CPAY_FORWARDED_FILLED. With any other answer
  * *size is 0, and the output buffer is unchanged. Before the source has begun the answer is CPAY_FORWARDED_OTHER_SOURCE.
  * CPAY_TOO_SMALL: the output buffer has fewer than 13 bytes, which *size says; nothing else has changed. In VP8 PictureIDs close up
- * behind each picture that is left out: leave out all packets of a picture, or none. PictureIDs of VP9 keep their gaps. The last 4096
+ * behind each picture that is left out: leave out all packets of a picture, or none. PictureIDs of VP9 keep their gaps. Never leave
+ * out upper spatial layers of VP9: the marker of the picture stays on their last packet, and the viewer waits for it. The last 4096
  * packets and, in VP8, pictures that were left out are remembered, 8 bytes each. CPAY_RTP_HEADER_TOO_SHORT to
  * CPAY_RTP_PADDING_TOO_LONG: not an RTP packet. If the call fails, the forwarder is unchanged. [m] */
 CPAY_CHECKED cpay_status cpay_forwarder_leave_out(cpay_forwarder *forwarder, const uint8_t *datagram, size_t datagram_len,
