@@ -516,7 +516,8 @@ CPAY_CHECKED cpay_status cpay_rtp_read(const uint8_t *datagram, size_t datagram_
 /** Reads the value of the first element with this id in the header extension of a datagram (RFC 8285, both forms): 1 to 16
  * bytes, or 0 to 255 in the two-byte form. CPAY_NONE: no such element, no extension, or an extension of another profile.
  * CPAY_RTP_HEADER_TOO_SHORT to CPAY_RTP_PADDING_TOO_LONG: not an RTP packet, as for cpay_rtp_read. Elements after one that
- * extends beyond the end are ignored; in the one-byte form, elements after an id of 0 or 15 too. Does not allocate. */
+ * extends beyond the end are ignored; in the one-byte form, elements after an id of 15, or of 0 with a length above 0, too. Bytes of
+ * padding between elements are skipped. Does not allocate. */
 CPAY_CHECKED cpay_status cpay_extension(const uint8_t *datagram, size_t datagram_len, uint8_t id, uint8_t *bytes,
                                         size_t bytes_len, size_t *size);
 
@@ -545,7 +546,8 @@ typedef struct {
     uint32_t ssrc;         /**< choose it at random (RFC 3550, section 8) */
     uint16_t first_number; /**< sequence number of the first packet; choose it at random too */
     uint8_t payload_type;  /**< 0 to 127 */
-    cpay_extension_ids extension_ids; /**< values without an id are not sent; ids must differ */
+    cpay_extension_ids extension_ids; /**< values without an id are not sent; ids must differ. A packet with an id above 14, or a value
+                                           of 0 or more than 16 bytes, has the two-byte form: docs/use/DATAGRAMS.md */
 } cpay_sender_settings;
 
 /** Creates a sender in an empty handle. CPAY_INVALID: as for cpay_packetizer_new, `payload_type` above 127, or two header
@@ -775,7 +777,8 @@ CPAY_CHECKED cpay_status cpay_forwarder_write(cpay_forwarder *forwarder, uint64_
  * packet that comes late a packet of padding, 13 bytes, is written under its number: CPAY_FORWARDED_FILLED. With any other answer
  * *size is 0, and the output buffer is unchanged. Before the source has begun the answer is CPAY_FORWARDED_OTHER_SOURCE.
  * CPAY_TOO_SMALL: the output buffer has fewer than 13 bytes, which *size says; nothing else has changed. In VP8 PictureIDs close up
- * behind each picture that is left out: leave out all packets of a picture, or none. PictureIDs of VP9 keep their gaps. The last 4096
+ * behind each picture that is left out: leave out all packets of a picture, or none. PictureIDs of VP9 keep their gaps. Never leave
+ * out upper spatial layers of VP9: the marker of the picture stays on their last packet, and the viewer waits for it. The last 4096
  * packets and, in VP8, pictures that were left out are remembered, 8 bytes each. CPAY_RTP_HEADER_TOO_SHORT to
  * CPAY_RTP_PADDING_TOO_LONG: not an RTP packet. If the call fails, the forwarder is unchanged. [m] */
 CPAY_CHECKED cpay_status cpay_forwarder_leave_out(cpay_forwarder *forwarder, const uint8_t *datagram, size_t datagram_len,
@@ -786,9 +789,10 @@ CPAY_CHECKED cpay_status cpay_forwarder_leave_out(cpay_forwarder *forwarder, con
  * in the output buffer as it was sent under this number, or with has_rtx as a retransmission (RFC 4588, section 4), and *size is its
  * size. Or it is CPAY_RESENT_NOT_KEPT: no packet was sent under this number, it is too old, or the store does not have it. Then *size
  * is 0, and the output buffer is unchanged. Never CPAY_RESENT_TOO_SOON: limit yourself how often a number is resent, for example once
- * in a round trip. The history does not change. CPAY_TOO_SMALL: the packet needs *size bytes; nothing else has changed. If the call
- * fails, the forwarder is unchanged. CPAY_EMPTY and CPAY_OTHER_KIND apply to the history too. It allocates only if a packet is larger
- * than all before it. [m] */
+ * in a round trip. For the number of a packet of padding (CPAY_FORWARDED_FILLED) the packet that was left out is written, and the
+ * viewer waits for the rest of its frame: keep padding that you send, and send it again instead. The history does not change.
+ * CPAY_TOO_SMALL: the packet needs *size bytes; nothing else has changed. If the call fails, the forwarder is unchanged. CPAY_EMPTY
+ * and CPAY_OTHER_KIND apply to the history too. It allocates only if a packet is larger than all before it. [m] */
 CPAY_CHECKED cpay_status cpay_forwarder_resend(cpay_forwarder *forwarder, cpay_history *history, uint16_t number, uint8_t *bytes,
                                                size_t bytes_len, size_t *size, cpay_resent *resent);
 
@@ -1289,7 +1293,7 @@ typedef struct {
 /** Ids of the header extensions that name streams (RFC 8285, section 5), 1 to 255; 0 means not negotiated, which is the default.
  * Two equal ids read the same element. */
 typedef struct {
-    uint8_t mid;          /**< `urn:ietf:params:rtp-hdrext:sdes:mid` (RFC 8843, section 15) */
+    uint8_t mid;          /**< `urn:ietf:params:rtp-hdrext:sdes:mid` (RFC 9143, section 15) */
     uint8_t rid;          /**< `urn:ietf:params:rtp-hdrext:sdes:rtp-stream-id` (RFC 8852, section 3) */
     uint8_t repaired_rid; /**< `urn:ietf:params:rtp-hdrext:sdes:repaired-rtp-stream-id` (RFC 8852, section 3) */
 } cpay_stream_name_ids;
@@ -1389,9 +1393,10 @@ CPAY_CHECKED cpay_status cpay_session_settings_check(const cpay_session_settings
 /** What a session did with a datagram. */
 typedef enum {
     CPAY_ARRIVAL_STREAM = 0,      /**< a stream received it: see `status` and `outcome` */
-    CPAY_ARRIVAL_RTCP = 1,        /**< a valid compound packet of RTCP; streams that its BYE names end after `bye_wait`, and its
-                                       sender reports state the clocks of streams: see cpay_session_sender_clock */
-    CPAY_ARRIVAL_MALFORMED = 2,   /**< neither RTP nor a valid compound packet of RTCP (RFC 3550, section 6.1) */
+    CPAY_ARRIVAL_RTCP = 1,        /**< a valid compound packet of RTCP (RFC 3550, section 6.1), also of reduced size (RFC 5506);
+                                       streams that its BYE names end after `bye_wait`, and its sender reports state the clocks of
+                                       streams: see cpay_session_sender_clock */
+    CPAY_ARRIVAL_MALFORMED = 2,   /**< neither RTP nor such a packet of RTCP */
     CPAY_ARRIVAL_UNKNOWN = 3,     /**< a payload type that no format names, or one of `no_media` whose SSRC has no stream */
     CPAY_ARRIVAL_REFUSED = 4,     /**< it would begin a stream, but all places are taken, or you called cpay_session_finish */
     CPAY_ARRIVAL_UNASSOCIATED = 5 /**< a retransmission whose stream is not known: its SSRC is in no pair, and none or several
