@@ -76,14 +76,12 @@ only_of ssrc payload_type place ids ss x listed only is type_is =
 of_type : (now wait ssrc : ℕ) (f : Format) (s : StreamState) → s.format.payload_type ≡ f.payload_type → is_left_behind now wait ssrc f s ≡ false
 of_type now wait ssrc f s same =
     let e : (s.format.payload_type == f.payload_type) ≡ true = grind (arith, nat_tests, same) in
-    by_test (s.ssrc == ssrc) (s.format.payload_type == f.payload_type) e
+    ap (λ (b : Bool). (s.ssrc == ssrc) && not b && not (takes_turns s.format.spec.codec) && are_alike (is_video s.format.spec.codec) (is_video f.spec.codec) && is_playing s.stage && nat_le wait (now - s.last)) e
+    ∙ by_test (s.ssrc == ssrc)
   where
-    rest : Bool
-    rest = not (takes_turns s.format.spec.codec) && are_alike (is_video s.format.spec.codec) (is_video f.spec.codec) && is_playing s.stage && nat_le wait (now - s.last)
-
-    by_test : (a b : Bool) → b ≡ true → (a && not b && rest) ≡ false
-    by_test true b is = ap (λ (x : Bool). not x && rest) is
-    by_test false b is = refl
+    by_test : (a : Bool) → (a && not true && not (takes_turns s.format.spec.codec) && are_alike (is_video s.format.spec.codec) (is_video f.spec.codec) && is_playing s.stage && nat_le wait (now - s.last)) ≡ false
+    by_test true = refl
+    by_test false = refl
 
 -- so once it took the datagram, its sender left no other one
 pub left_none : (wait ssrc place probation : ℕ) (f : Format) (now : Ticks) (bytes : List ℕ) (p : Port) (answer : Result Arrival AllocError) (q : Port) → IsOnlyOf ssrc f.payload_type place p.streams

@@ -18,6 +18,6 @@ pub returns-then-index-payload_type : goal.returns-then-index-payload_type
 returns-then-index-payload_type c =
     let ss = c.self.inside.list.items in
     let x : StreamState = c.index.result.now in
-    let type_is : x.format.payload_type ≡ c.args.payload_type = c.if-index-payload_type.true in
+    let type_is : x.format.payload_type ≡ c.args.payload_type = ap (λ (s : StreamState). s.format.payload_type) (sym c.behind-self.view_is) ∙ c.if-index-payload_type.true in
     subst (λ (p : Port). IsOnlyOf c.args.ssrc c.args.payload_type c.in-Some.place p.streams) c.self.view_is
     (only_of c.args.ssrc c.args.payload_type c.in-Some.place c.self.inside.ssrcs ss x c.self.invariant.listed c.in-Some.ensures c.index.ensures type_is)
