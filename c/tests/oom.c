@@ -683,7 +683,7 @@ static int too_large(void) {
     TAKES(350, "counter of freezes", cpay_freezes_new(&it.freezes, 1000));
     TAKES(250, "transport reporter", cpay_transport_reporter_new(&it.transport_reporter, &reports, NULL, 0));
     TAKES(100, "list of sent packets", cpay_sent_packets_new(&it.sent_packets, 2048));
-    TAKES(1610, "session", cpay_session_new(&it.session, &port, &format, 1, NULL, 0, NULL, 0));
+    TAKES(1630, "session", cpay_session_new(&it.session, &port, &format, 1, NULL, 0, NULL, 0));
     return bad;
 }
 

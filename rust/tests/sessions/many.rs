@@ -192,7 +192,7 @@ fn memory_of_sessions_and_streams() {
         "a session: {} bytes, and {session} behind it",
         size_of::<Session>()
     );
-    assert!(size_of::<Session>() + session <= 1_180);
+    assert!(size_of::<Session>() + session <= 1_200);
     println!("a receiver: {} bytes", size_of::<Receiver>());
     assert!(size_of::<Receiver>() <= 1_220);
     type Datagram = fn(u32, u16) -> Vec<u8>;
