@@ -747,6 +747,35 @@ fn left_out_packets_close_up() -> Outcome {
     Ok(())
 }
 
+/// The viewer requests the number of padding: the packet that was left out is found, and left out again it is the same padding.
+#[test]
+fn padding_is_written_again() -> Outcome {
+    let mut forwarder = Forwarder::new(settings(Codec::Opus))?;
+    let mut store = History::new(HistorySettings {
+        limit: 8,
+        interval: 0,
+        stream: None,
+    })?;
+    let (mut sent, mut again) = (Vec::new(), Vec::new());
+    forwarder.want(1);
+    for number in [10, 12, 11] {
+        let datagram = packet(number, 0, 1, &[7; 5]);
+        store.keep_once(&datagram)?;
+        let read = RtpPacket::parse(&datagram)?;
+        if number == 11 {
+            assert_eq!(forwarder.leave_out(&read, &mut sent)?, Forwarded::Filled);
+        } else {
+            forwarder.write(0, &read, &mut sent)?;
+        }
+    }
+    let number = u16::from_be_bytes([sent[2], sent[3]]);
+    let found = forwarder.requested(number, &store).ok_or("kept")?;
+    assert_eq!(found.header.sequence_number, 11);
+    assert_eq!(forwarder.leave_out(&found, &mut again)?, Forwarded::Filled);
+    assert_eq!(again, sent);
+    Ok(())
+}
+
 /// Pictures of VP8 that are left out leave no gap in the PictureIDs of the others (RFC 7741, section 4.2), also in packets that are
 /// late or retransmitted. An id is unused only if all packets of its picture come late.
 #[test]
