@@ -8,6 +8,8 @@
 enum {
     REPORT_INTERVAL = 1000, /* ms between two sender reports */
     MOST_RESENT = 100,      /* packets in a tick of 50 ms: nobody makes the server a source of floods */
+    MOST_FILLED = 64,       /* packets of padding that are kept for requests */
+    FILLED_FOR = 5000,      /* ms: numbers come again after 65,536 packets */
     EARLY = 64,             /* packets of a keyframe that may come before its first one */
     RED_BUDGET = 1200,      /* bytes of a RED payload */
     ALL_LAYERS = 3,
@@ -27,6 +29,11 @@ struct outgoing {
     uint32_t report_ntp;   /* the middle 32 bits of its NTP time */
     report_block reported; /* by the viewer */
     uint64_t round_trip;   /* ms */
+    struct {
+        uint64_t sent; /* ms */
+        uint8_t bytes[HEADER + 1];
+    } filled[MOST_FILLED]; /* the latest packets of padding, in a ring */
+    size_t filled_count;
 };
 
 static uint64_t rate_of(int kind) { return kind == AUDIO ? 48000 : 90000; }
@@ -83,6 +90,25 @@ static size_t wrap(outgoing *to, uint8_t red_payload_type, uint8_t *packet, size
     return HEADER + length;
 }
 
+/* Leaves a packet out. Keeps the padding that is sent in place of a late one. Returns its size; 0: there is none. */
+static size_t leave_out(outgoing *to, const uint8_t *datagram, size_t datagram_len, uint8_t *out, cpay_forwarded *done) {
+    size_t size = 0;
+    if (cpay_forwarder_leave_out(&to->forwarder, datagram, datagram_len, out, MOST_DATAGRAM, &size, done)) return 0;
+    if (size == HEADER + 1) {
+        size_t place = to->filled_count++ % MOST_FILLED;
+        memcpy(to->filled[place].bytes, out, size);
+        to->filled[place].sent = now_ms();
+    }
+    return size;
+}
+
+/* The padding that was sent under this number lately; NULL: it is not kept. */
+static const uint8_t *filled_under(const outgoing *to, uint16_t number) {
+    for (size_t i = 0; i < MOST_FILLED && i < to->filled_count; i++)
+        if (AV_RB16(to->filled[i].bytes + 2) == number && now_ms() - to->filled[i].sent < FILLED_FOR) return to->filled[i].bytes;
+    return NULL;
+}
+
 /* Writes a packet for a viewer, or leaves it out. Returns its size; 0: there is nothing to send. */
 static size_t write_packet(outgoing *to, int kind, cpay_codec codec, const uint8_t *datagram, size_t datagram_len, uint8_t *out,
                            cpay_forwarded *done) {
@@ -92,8 +118,7 @@ static size_t write_packet(outgoing *to, int kind, cpay_codec codec, const uint8
     bool begins = false;
     int temporal = temporal_of(codec, datagram + info.payload_at, info.payload_len, &begins);
     if (begins) to->layers = to->temporal; /* all packets of a picture are left out, or none */
-    if (temporal > to->layers)
-        return cpay_forwarder_leave_out(&to->forwarder, datagram, datagram_len, out, MOST_DATAGRAM, &size, done) ? 0 : size;
+    if (temporal > to->layers) return leave_out(to, datagram, datagram_len, out, done);
     uint64_t ticks = now_us() * rate_of(kind) / 1000000;
     return cpay_forwarder_write(&to->forwarder, ticks, datagram, datagram_len, out, MOST_DATAGRAM, &size, done) ? 0 : size;
 }
@@ -142,6 +167,12 @@ static void resend(peer *it, outgoing *to, cpay_history *store, uint16_t number)
     uint8_t *out = network_room();
     to->requested++;
     if (++to->resent_now > MOST_RESENT) return;
+    const uint8_t *padding = filled_under(to, number); /* the packet that was left out is not to come in its place */
+    if (padding) {
+        memcpy(out, padding, HEADER + 1);
+        srtp_send(it, out, HEADER + 1, false);
+        return;
+    }
     if (cpay_forwarder_resend(&to->forwarder, store, number, out, MOST_DATAGRAM, &size, &resent)) return;
     to->not_kept += resent == CPAY_RESENT_NOT_KEPT;
     if (resent == CPAY_RESENT_WRITTEN) srtp_send(it, out, size, false);
