@@ -1,6 +1,6 @@
 -- The premises of a run whose forwarder leaves a frame out can be met.
 use Rattle.std.specs.Global.{Vec}
-use Rattle.std.proofs.Common.{◌≡◌, refl, ap, ℕ, zero, suc, ◌+◌, ◌<◌, List, [], ◌∷◌, inr, arith, lit<, lit≤}
+use Rattle.std.proofs.Common.{refl, ap, ℕ, zero, suc, ◌<◌, List, [], ◌∷◌, inr, arith, lit<, lit≤}
 use Rattle.std.specs.Prelude.{Contains}
 use Rattle.codec_payload_codec.specs.Depacketizers.{OpusDepacketizing, Vp8Depacketizing}
 use Rattle.codec_payload_sending_forward.specs.Numbers.{is_in}

@@ -23,6 +23,7 @@ pub mod StoreLemmas
 pub mod StoreReleaseLemmas
 pub mod StoreRunExamples
 pub mod StoreViewerRuns
+pub mod SwitchBackExamples
 pub mod SwitchEvents
 pub mod SwitchIds
 pub mod SwitchLemmas
@@ -33,6 +34,11 @@ pub mod SwitchSenders
 pub mod SwitchSent
 pub mod SwitchSteps
 pub mod SwitchStreams
+pub mod SwitchStretchIds
+pub mod SwitchStretchSent
+pub mod SwitchStretchUnits
+pub mod SwitchStretchViews
+pub mod SwitchStretchWalks
 pub mod SwitchUnitLemmas
 pub mod SwitchUnitsExamples
 pub mod SwitchViews

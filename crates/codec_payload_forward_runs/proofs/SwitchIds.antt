@@ -57,7 +57,7 @@ id_stays sample s t fault has sends =
 -- Units and values do not depend on ids, if payloads have room for any id
 
 module _ (mtu : ℕ) (roomy : 4 < mtu) (all : List Sample) where
-  abbrev vp8 : ℕ → PacketizerState
+  abbrev pub vp8 : ℕ → PacketizerState
   vp8 id = Vp8Packetizing (Some id)
 
   units_same : (a b : ℕ) (o : Option Sample) → units_of_sample (vp8 a) mtu o ≡ units_of_sample (vp8 b) mtu o
@@ -72,7 +72,7 @@ module _ (mtu : ℕ) (roomy : 4 < mtu) (all : List Sample) where
   after_is a None = (a, refl)
   after_is a (Some sample) = let next = next_is (not (is_skipped (vp8 a) mtu sample.bytes)) a in (next.0, ap Vp8Packetizing next.1)
 
-  units_join : (a b : ℕ) (ds rest : List DatagramStep) → units_of_run (vp8 a) all (sending_steps mtu (ds ++ rest)) ≡ units_of_run (vp8 a) all (sending_steps mtu ds) ++ units_of_run (vp8 b) all (sending_steps mtu rest)
+  pub units_join : (a b : ℕ) (ds rest : List DatagramStep) → units_of_run (vp8 a) all (sending_steps mtu (ds ++ rest)) ≡ units_of_run (vp8 a) all (sending_steps mtu ds) ++ units_of_run (vp8 b) all (sending_steps mtu rest)
   units_join a b [] [] = refl
   units_join a b [] (seen.Deliver k now ∷ rest) = units_join a b [] rest
   units_join a b [] (seen.Pop now ∷ rest) = units_join a b [] rest
@@ -97,7 +97,7 @@ module _ (mtu : ℕ) (roomy : 4 < mtu) (all : List Sample) where
       ∙ (units_join one.0 b ds rest ∙ ap (λ (p : PacketizerState). units_of_run p all (sending_steps mtu ds) ++ later) (sym one.1)))
       ∙ sym (append_assoc (units_of_sample (vp8 a) mtu o) (units_of_run (packetizer_after_sample (vp8 a) mtu o) all (sending_steps mtu ds)) later)
 
-  values_join : (a b : ℕ) (ds rest : List DatagramStep) → values_of_run (vp8 a) all (sending_steps mtu (ds ++ rest)) ≡ values_of_run (vp8 a) all (sending_steps mtu ds) ++ values_of_run (vp8 b) all (sending_steps mtu rest)
+  pub values_join : (a b : ℕ) (ds rest : List DatagramStep) → values_of_run (vp8 a) all (sending_steps mtu (ds ++ rest)) ≡ values_of_run (vp8 a) all (sending_steps mtu ds) ++ values_of_run (vp8 b) all (sending_steps mtu rest)
   values_join a b [] [] = refl
   values_join a b [] (seen.Deliver k now ∷ rest) = values_join a b [] rest
   values_join a b [] (seen.Pop now ∷ rest) = values_join a b [] rest

@@ -60,7 +60,7 @@ pub seen_moved : (f : Forward) (rate : ℕ) (xs : List Sent) → AreSeen (viewer
 seen_moved f rate [] = tt
 seen_moved f rate (x ∷ xs) = (refl, seen_moved f rate xs)
 
-seen_append : (ys zs : List Sample) (xs ws : List Sent) → AreSeen ys xs → AreSeen zs ws → AreSeen (ys ++ zs) (xs ++ ws)
+pub seen_append : (ys zs : List Sample) (xs ws : List Sent) → AreSeen ys xs → AreSeen zs ws → AreSeen (ys ++ zs) (xs ++ ws)
 seen_append [] zs [] ws here more = more
 seen_append [] zs (x ∷ xs) ws here more = absurd here
 seen_append (y ∷ ys) zs [] ws here more = absurd here

@@ -48,19 +48,19 @@ head_same : {X : Type 0} (x y : X) (xs ys : List X) → x ∷ xs ≡ y ∷ ys �
 head_same x y xs ys e = (cc, cc)
 
 -- A stretch: the source, the number of its first datagram, the index with which the stretch began, and the highest index
-record IsOn (source : Source) (low begin high : ℕ) (r : Reached) : Type 0 where
-  source_is : r.source ≡ Some source
-  from : begin ≤ high
-  place : r.top + begin ≡ r.lowest + high
-  low_is : r.lowest % 65536 ≡ (low + begin + r.forwarder.numbers.offset) % 65536
+pub record IsOn (source : Source) (low begin high : ℕ) (r : Reached) : Type 0 where
+  pub source_is : r.source ≡ Some source
+  pub from : begin ≤ high
+  pub place : r.top + begin ≡ r.lowest + high
+  pub low_is : r.lowest % 65536 ≡ (low + begin + r.forwarder.numbers.offset) % 65536
 
-record Goes (source : Source) (low begin high k : ℕ) (p : Packet) (r next : Reached) : Type 0 where
-  from : begin ≤ k
-  on : IsOn source low begin (max high k) next
-  same : next.forwarder ≡ r.forwarder
-  number : (viewer_packet r.forwarder p).header.sequence_number ≡ (low + k + r.forwarder.numbers.offset) % 65536
+pub record Goes (source : Source) (low begin high k : ℕ) (p : Packet) (r next : Reached) : Type 0 where
+  pub from : begin ≤ k
+  pub on : IsOn source low begin (max high k) next
+  pub same : next.forwarder ≡ r.forwarder
+  pub number : (viewer_packet r.forwarder p).header.sequence_number ≡ (low + k + r.forwarder.numbers.offset) % 65536
 
-goes_on : (source : Source) (low begin high k : ℕ) (p : Packet) (r next : Reached) → IsOn source low begin high r → Continues source p r next → p.header.sequence_number ≡ (low + k) % 65536 → k < high + 32768
+pub goes_on : (source : Source) (low begin high k : ℕ) (p : Packet) (r next : Reached) → IsOn source low begin high r → Continues source p r next → p.header.sequence_number ≡ (low + k) % 65536 → k < high + 32768
     → high ≤ k + 32767 → Goes source low begin high k p r next
 goes_on source low begin high k p r next on c seq up down =
     let is : c.number + begin ≡ r.lowest + k =
@@ -77,7 +77,7 @@ goes_on source low begin high k p r next on c seq up down =
       number = omega (arith, seq);
     }
 
-begins_on : (source : Source) (low k : ℕ) (p : Packet) (r next : Reached) → Switches source p r next → p.header.sequence_number ≡ (low + k) % 65536 → IsOn source low k k next
+pub begins_on : (source : Source) (low k : ℕ) (p : Packet) (r next : Reached) → Switches source p r next → p.header.sequence_number ≡ (low + k) % 65536 → IsOn source low k k next
 begins_on source low k p r next w seq = record {
   source_is = w.source_is;
   from = omega arith;
@@ -85,7 +85,7 @@ begins_on source low k p r next w seq = record {
   low_is = omega (arith, w.number, w.top, w.lowest, seq);
 }
 
-same_source : (x y : Source) (r : Reached) → r.source ≡ Some x → r.source ≡ Some y → x ≡ y
+pub same_source : (x y : Source) (r : Reached) → r.source ≡ Some x → r.source ≡ Some y → x ≡ y
 same_source x y r one two = same_Some x y (sym one ∙ two)
 
 module _ (first second : List (List ℕ)) (low_first low_second : ℕ) (from_first : From low_first first) (from_second : From low_second second) where

@@ -56,7 +56,7 @@ use Rattle.codec_payload_forward_runs.specs.declared.switch_run.Source.TheVarian
 use Rattle.codec_payload_forward_runs.specs.declared.switch_run.SwitchStep.{SwitchStep}
 
 -- whether packets are retransmissions depends on the SSRC and the payload type alone
-again_by : (o : Option Retransmission) (rate number other_number : ℕ) (settings other : ForwardSettings) → settings ≡ other
+pub again_by : (o : Option Retransmission) (rate number other_number : ℕ) (settings other : ForwardSettings) → settings ≡ other
     → is_sent_again_by o (record { ssrc = settings.ssrc; payload_type = settings.payload_type; clock_rate = rate; ids = no_ids; number = number })
     ≡ is_sent_again_by o (record { ssrc = other.ssrc; payload_type = other.payload_type; clock_rate = rate; ids = no_ids; number = other_number })
 again_by None rate number other_number settings other same = refl
@@ -64,7 +64,7 @@ again_by (Some r) rate number other_number settings other same =
     ap (λ (x : ForwardSettings). is_sent_again_by (Some r) (record { ssrc = x.ssrc; payload_type = x.payload_type; clock_rate = rate; ids = no_ids; number = number })) same
 
 -- the stream of a source, as the viewer gets it
-same_stream : (settings other : ForwardSettings) (rate other_rate number other_number : ℕ) → settings ≡ other → rate ≡ other_rate → number ≡ other_number
+pub same_stream : (settings other : ForwardSettings) (rate other_rate number other_number : ℕ) → settings ≡ other → rate ≡ other_rate → number ≡ other_number
     → ◌≡◌ {A = Outgoing} (record { ssrc = settings.ssrc; payload_type = settings.payload_type; clock_rate = rate; ids = no_ids; number = number })
     (record { ssrc = other.ssrc; payload_type = other.payload_type; clock_rate = other_rate; ids = no_ids; number = other_number })
 same_stream settings other rate other_rate number other_number one two three =
@@ -76,12 +76,12 @@ all_left : (ssrc : ℕ) (codec : Codec) (xs ys : List (List ℕ)) → AllOf fals
 all_left ssrc codec [] ys of = tt
 all_left ssrc codec (x ∷ xs) ys of = (of.0, all_left ssrc codec xs ys of.1)
 
-all_right : (ssrc : ℕ) (codec : Codec) (n : ℕ) (xs : List (List ℕ)) → AllOf false ssrc codec xs → AllOf false ssrc codec (drop n xs)
+pub all_right : (ssrc : ℕ) (codec : Codec) (n : ℕ) (xs : List (List ℕ)) → AllOf false ssrc codec xs → AllOf false ssrc codec (drop n xs)
 all_right ssrc codec zero xs of = of
 all_right ssrc codec (suc n) [] of = tt
 all_right ssrc codec (suc n) (x ∷ xs) of = all_right ssrc codec n xs of.1
 
-total_append : (xs ys : List Sent) → total (xs ++ ys) ≡ total xs + total ys
+pub total_append : (xs ys : List Sent) → total (xs ++ ys) ≡ total xs + total ys
 total_append [] ys = omega arith
 total_append (x ∷ xs) ys = omega (arith, total_append xs ys)
 

@@ -37,23 +37,23 @@ use Rattle.codec_payload_forward_runs.specs.declared.switch_run.Source.TheVarian
 
 -- Lists
 
-get_take : (k n : ℕ) (xs : List (List ℕ)) (x : List ℕ) → k < n → slice_get xs k ≡ Some x → slice_get (take n xs) k ≡ Some x
+pub get_take : (k n : ℕ) (xs : List (List ℕ)) (x : List ℕ) → k < n → slice_get xs k ≡ Some x → slice_get (take n xs) k ≡ Some x
 get_take k zero xs x l there = absurd (omega (arith, l))
 get_take k (suc n) [] x l there = absurd (cc)
 get_take zero (suc n) (y ∷ ys) x l there = there
 get_take (suc k) (suc n) (y ∷ ys) x l there = get_take k n ys x (omega (arith, l)) there
 
-get_drop : (k n : ℕ) (xs : List (List ℕ)) (x : List ℕ) → n ≤ k → slice_get xs k ≡ Some x → slice_get (drop n xs) (k - n) ≡ Some x
+pub get_drop : (k n : ℕ) (xs : List (List ℕ)) (x : List ℕ) → n ≤ k → slice_get xs k ≡ Some x → slice_get (drop n xs) (k - n) ≡ Some x
 get_drop k zero xs x l there = subst (λ (j : ℕ). slice_get xs j ≡ Some x) (omega arith) there
 get_drop k (suc n) [] x l there = absurd (cc)
 get_drop zero (suc n) (y ∷ ys) x l there = absurd (omega (arith, l))
 get_drop (suc k) (suc n) (y ∷ ys) x l there = subst (λ (j : ℕ). slice_get (drop n ys) j ≡ Some x) (omega arith) (get_drop k n ys x (omega (arith, l)) there)
 
-get_right : (xs ys : List (List ℕ)) (m : ℕ) → slice_get (xs ++ ys) (length xs + m) ≡ slice_get ys m
+pub get_right : (xs ys : List (List ℕ)) (m : ℕ) → slice_get (xs ++ ys) (length xs + m) ≡ slice_get ys m
 get_right [] ys m = let same : 0 + m ≡ m = omega arith in ap (slice_get ys) same
 get_right (x ∷ xs) ys m = let same : suc (length xs) + m ≡ suc (length xs + m) = omega arith in ap (slice_get (x ∷ (xs ++ ys))) same ∙ get_right xs ys m
 
-take_count : (n : ℕ) (xs : List (List ℕ)) → n ≤ length xs → length (take n xs) ≡ n
+pub take_count : (n : ℕ) (xs : List (List ℕ)) → n ≤ length xs → length (take n xs) ≡ n
 take_count zero xs l = refl
 take_count (suc n) [] l = absurd (omega (arith, l))
 take_count (suc n) (x ∷ xs) l = ap suc (take_count n xs (omega (arith, l)))
@@ -163,13 +163,13 @@ module _ (first second : List (List ℕ)) (before after : Forward) (number cut s
 
 -- What the receiver does
 
-at_both : (datagrams bytes : List (List ℕ)) (places : List ℕ) (j : ℕ) (b : List ℕ) → AreAt datagrams bytes places → slice_get bytes j ≡ Some b → (k : ℕ) × (slice_get places j ≡ Some k) × (slice_get datagrams k ≡ Some b)
+pub at_both : (datagrams bytes : List (List ℕ)) (places : List ℕ) (j : ℕ) (b : List ℕ) → AreAt datagrams bytes places → slice_get bytes j ≡ Some b → (k : ℕ) × (slice_get places j ≡ Some k) × (slice_get datagrams k ≡ Some b)
 at_both datagrams [] places j b are there = absurd (cc)
 at_both datagrams (c ∷ bytes) [] j b are there = absurd are
 at_both datagrams (c ∷ bytes) (k ∷ places) zero b are there = (k, refl, are.0 ∙ there)
 at_both datagrams (c ∷ bytes) (k ∷ places) (suc j) b are there = at_both datagrams bytes places j b are.1 there
 
-at_left : (xs ys : List ℕ) (j k : ℕ) → j < length xs → slice_get (xs ++ ys) j ≡ Some k → slice_get xs j ≡ Some k
+pub at_left : (xs ys : List ℕ) (j k : ℕ) → j < length xs → slice_get (xs ++ ys) j ≡ Some k → slice_get xs j ≡ Some k
 at_left [] ys j k l there = absurd (omega (arith, l))
 at_left (x ∷ xs) ys zero k l there = there
 at_left (x ∷ xs) ys (suc j) k l there = at_left xs ys j k (omega (arith, l)) there
@@ -317,20 +317,20 @@ module _ (all : List Sample) (first second : List (List ℕ)) (cut start : ℕ) 
 
 -- The steps of the receiver send nothing, and name only datagrams of the stream
 
-abbrev AllUnder : ℕ → List ℕ → Type 0
+abbrev pub AllUnder : ℕ → List ℕ → Type 0
 AllUnder bound [] = Unit {0}
 AllUnder bound (k ∷ ks) = (k < bound) × AllUnder bound ks
 
-under_at : (bound : ℕ) (ks : List ℕ) (j k : ℕ) → AllUnder bound ks → slice_get ks j ≡ Some k → k < bound
+pub under_at : (bound : ℕ) (ks : List ℕ) (j k : ℕ) → AllUnder bound ks → slice_get ks j ≡ Some k → k < bound
 under_at bound [] j k under there = absurd (cc)
 under_at bound (n ∷ ks) zero k under there = omega (arith, under.0, same_Some n k there)
 under_at bound (n ∷ ks) (suc j) k under there = under_at bound ks j k under.1 there
 
-under_left : (bound : ℕ) (ks js : List ℕ) → AllUnder bound (ks ++ js) → AllUnder bound ks
+pub under_left : (bound : ℕ) (ks js : List ℕ) → AllUnder bound (ks ++ js) → AllUnder bound ks
 under_left bound [] js under = tt
 under_left bound (k ∷ ks) js under = (under.0, under_left bound ks js under.1)
 
-places_under : (datagrams bytes : List (List ℕ)) (places : List ℕ) → AreAt datagrams bytes places → AllUnder (length datagrams) places
+pub places_under : (datagrams bytes : List (List ℕ)) (places : List ℕ) → AreAt datagrams bytes places → AllUnder (length datagrams) places
 places_under datagrams [] [] are = tt
 places_under datagrams [] (k ∷ places) are = absurd are
 places_under datagrams (b ∷ bytes) [] are = absurd are

@@ -8,8 +8,10 @@ pub mod LeaveRuns
 pub mod StoreReleases
 pub mod StoreRunExample
 pub mod StoreRuns
+pub mod SwitchBackExample
 pub mod SwitchReleases
 pub mod SwitchRunExample
 pub mod SwitchRuns
+pub mod SwitchStretches
 pub mod SwitchUnits
 pub mod SwitchUnitsExample

@@ -7,6 +7,7 @@ ghost use Rattle.codec_payload_forward_runs.specs.declared.switch_run.Source.The
 ghost use Rattle.codec_payload_forward_runs.specs.declared.switch_run.SwitchStep.TheVariants as steps;
 ghost use Rattle.codec_payload_forward_runs.specs.SwitchReleases.{ForwardsSwitching, WritesOneStream};
 ghost use Rattle.codec_payload_forward_runs.specs.SwitchRuns.{DoesSwitchStep, SwitchRuns, SwitchStops, SwitchStopsAt, begins_switching, swapped, switched_of};
+ghost use Rattle.codec_payload_forward_runs.specs.SwitchStretches.{ReleasesAllStretches, WritesStretches};
 ghost use Rattle.codec_payload_forward_runs.specs.SwitchUnits.{ReleasesSwitching};
 
 use crate::run::{ForwardLink, ForwardStep, ForwardedRun, do_forward_step, no_results};
@@ -84,6 +85,11 @@ pub fn run_forwarded_switching<P: Packetizer, D: Depacketizer>(
     ensures stream { IfOk result (λ run. WritesOneStream (map sample_of samples.now) steps.now (begins_switching link.old.link.sender link.old.second link.old.link.forwarder link.old.link.receiver) (switched_of link.new.link.sender link.new.second link.new.link.forwarder link.new.link.receiver run)) }
     // The units that the viewer's receiver releases, with one switch between two frames, if what is delivered arrives within its windows.
     ensures units { IfOk result (λ run. ReleasesSwitching (map sample_of samples.now) steps.now (begins_switching link.old.link.sender link.old.second link.old.link.forwarder link.old.link.receiver) (switched_of link.new.link.sender link.new.second link.new.link.forwarder link.new.link.receiver run)) }
+    // With any number of switches it is one stream of stretches, each of one source from its keyframe on.
+    ensures stretches { IfOk result (λ run. WritesStretches (map sample_of samples.now) steps.now (begins_switching link.old.link.sender link.old.second link.old.link.forwarder link.old.link.receiver) (switched_of link.new.link.sender link.new.second link.new.link.forwarder link.new.link.receiver run)) }
+    // The units that the viewer's receiver releases, with any number of switches, each between two frames, if what is delivered arrives within its
+    // windows.
+    ensures units_of_all { IfOk result (λ run. ReleasesAllStretches (map sample_of samples.now) steps.now (begins_switching link.old.link.sender link.old.second link.old.link.forwarder link.old.link.receiver) (switched_of link.new.link.sender link.new.second link.new.link.forwarder link.new.link.receiver run)) }
     ensures stops { OnErr result (SwitchStops (map sample_of samples.now) steps.now (begins_switching link.old.link.sender link.old.second link.old.link.forwarder link.old.link.receiver) link.new.link.sender link.new.second link.new.link.forwarder link.new.link.receiver) }
     ensures fault { IfErr result (λ fault. fault ≡ OutOfMemory) }
 {

@@ -4,6 +4,7 @@ ghost use Rattle.codec_payload_forward_runs.specs.FirstHop.{ReadsAsSent};
 ghost use Rattle.codec_payload_forward_runs.specs.ForwardRunExample.{ForwardingCanBeMet};
 ghost use Rattle.codec_payload_forward_runs.specs.LeaveRunExample.{LeavingCanBeMet};
 ghost use Rattle.codec_payload_forward_runs.specs.StoreRunExample.{StoreCanBeMet};
+ghost use Rattle.codec_payload_forward_runs.specs.SwitchBackExample.{SwitchedBackCanBeMet};
 ghost use Rattle.codec_payload_forward_runs.specs.SwitchRunExample.{SwitchingCanBeMet};
 ghost use Rattle.codec_payload_forward_runs.specs.SwitchUnitsExample.{SwitchedUnitsCanBeMet};
 
@@ -36,6 +37,12 @@ pub fn switching_premises_can_be_met()
 /// come to the viewer in another order. All come before the stream ends. The frames are of Opus, and of VP8 with picture ids.
 pub fn switched_units_premises_can_be_met()
     ensures { SwitchedUnitsCanBeMet }
+{}
+
+/// The premises on the units of a run with two switches can be met: the forwarder goes over to another source, and back. Of three frames,
+/// the last two come to the viewer in another order. All come before the stream ends. The frames are of Opus, and of VP8 with picture ids.
+pub fn switched_back_premises_can_be_met()
+    ensures { SwitchedBackCanBeMet }
 {}
 
 /// A packet that the sender retransmitted on the first hop (RFC 4588), and that was unwrapped (`OriginalStream::write`), reads as

@@ -17,6 +17,7 @@ mod served_again;
 mod served_left_out;
 mod sides;
 mod switched;
+mod switched_back;
 mod with_ids;
 
 /// Why a test fails.

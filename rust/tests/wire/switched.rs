@@ -17,13 +17,13 @@ use codec_payload::vp8::Vp8Packetizer;
 use codec_payload::wire::{Codec, Ticks, ToPayload};
 
 /// How many blocks of eight frames each source sends. Each eighth frame is a keyframe.
-const BLOCKS: usize = 12;
+pub const BLOCKS: usize = 12;
 
 /// How many frames each source sends.
-const FRAMES: usize = BLOCKS * 8;
+pub const FRAMES: usize = BLOCKS * 8;
 
 /// First picture ids of the sources.
-const IDS: [[Option<u16>; 2]; 5] = [
+pub const IDS: [[Option<u16>; 2]; 5] = [
     [None, None],
     [Some(FIRST_IDS[1]), Some(FIRST_IDS[2])],
     [Some(FIRST_IDS[3]), Some(FIRST_IDS[0])],
@@ -32,7 +32,7 @@ const IDS: [[Option<u16>; 2]; 5] = [
 ];
 
 /// The SSRC of a source.
-fn ssrc_of(source: Source) -> u32 {
+pub fn ssrc_of(source: Source) -> u32 {
     match source {
         Source::First => 7,
         Source::Second => 9,
@@ -40,7 +40,7 @@ fn ssrc_of(source: Source) -> u32 {
 }
 
 /// The index of a frame among the samples: those of the first source come first.
-fn sample_in(source: Source, frame: usize) -> usize {
+pub fn sample_in(source: Source, frame: usize) -> usize {
     match source {
         Source::First => frame,
         Source::Second => FRAMES + frame,
@@ -48,12 +48,12 @@ fn sample_in(source: Source, frame: usize) -> usize {
 }
 
 /// The bytes of a sample.
-fn bytes_of(sample: usize) -> [u8; 5] {
+pub fn bytes_of(sample: usize) -> [u8; 5] {
     let [high, low] = (sample as u16).to_be_bytes();
     [u8::from(!sample.is_multiple_of(8)), 0xa5, high, low, 0x5a]
 }
 
-fn samples() -> Vec<ToPayload> {
+pub fn samples() -> Vec<ToPayload> {
     let all = 0..2 * FRAMES;
     all.map(|sample| sample_of((sample % FRAMES) as u64 * 3_000, &bytes_of(sample)))
         .collect()
@@ -79,7 +79,7 @@ fn sender_of(source: Source, id: Option<u16>) -> Result<Sender<NoBox>, Fail> {
 }
 
 /// Two sources with these first picture ids, a forwarder that wants the first, and a viewer.
-fn link_of(ids: [Option<u16>; 2]) -> Result<SwitchLink<NoBox, NoBox>, Fail> {
+pub fn link_of(ids: [Option<u16>; 2]) -> Result<SwitchLink<NoBox, NoBox>, Fail> {
     Ok(SwitchLink {
         link: link_with(Codec::Vp8, sender_of(Source::First, ids[0])?)?,
         second: sender_of(Source::Second, ids[1])?,
@@ -87,7 +87,7 @@ fn link_of(ids: [Option<u16>; 2]) -> Result<SwitchLink<NoBox, NoBox>, Fail> {
 }
 
 /// Two sources of Opus, whose frames have one datagram each.
-fn opus_link() -> Result<SwitchLink<NoBox, NoBox>, Fail> {
+pub fn opus_link() -> Result<SwitchLink<NoBox, NoBox>, Fail> {
     let sender = |ssrc| -> Result<Sender<NoBox>, Fail> {
         let settings = SenderSettings {
             ssrc,
@@ -104,7 +104,7 @@ fn opus_link() -> Result<SwitchLink<NoBox, NoBox>, Fail> {
 }
 
 /// A source with this packetizer, whose frames have one datagram each.
-fn whole_frames(source: Source, pack: CodecPacketizer<NoBox>) -> Result<Sender<NoBox>, Fail> {
+pub fn whole_frames(source: Source, pack: CodecPacketizer<NoBox>) -> Result<Sender<NoBox>, Fail> {
     let settings = SenderSettings {
         ssrc: ssrc_of(source),
         mtu: 1_200,
@@ -248,7 +248,7 @@ fn schedule_of(mut seed: u32, per_frame: usize, begins_each: usize) -> Schedule 
     schedule
 }
 
-fn popped_in(run: &SwitchedRun) -> Result<Vec<u8>, Fail> {
+pub fn popped_in(run: &SwitchedRun) -> Result<Vec<u8>, Fail> {
     crate::forwarded::popped_in(&run.run)
 }
 

@@ -4,6 +4,8 @@ use Rattle.codec_payload_codec.proofs.AnswerLemmas.{on_err}
 use Rattle.codec_payload_payloader.specs.Sending.{sample_of}
 use Rattle.codec_payload_forward_runs.proofs.SwitchLemmas.{forward_switching}
 use Rattle.codec_payload_forward_runs.proofs.SwitchStreams.{write_one_stream}
+use Rattle.codec_payload_forward_runs.proofs.SwitchStretchUnits.{release_all_stretches}
+use Rattle.codec_payload_forward_runs.proofs.SwitchStretchWalks.{write_stretches}
 use Rattle.codec_payload_forward_runs.proofs.SwitchUnitLemmas.{release_switching}
 use Rattle.codec_payload_forward_runs.specs.SwitchRuns.{SwitchRuns, SwitchStops, Switched, switched_of}
 use Rattle.codec_payload_forward_runs.specs.declared.switch_run.SwitchStep.{SwitchStep}
@@ -61,5 +63,21 @@ returns-clause-units g c =
     let link = c.loop-step.link in
     let end : Switched = switched_of link.link.sender link.second link.link.forwarder link.link.receiver c.loop-step.run in
     release_switching (map sample_of c.args.samples.now) c.args.steps.now c.args.link.now.link.sender c.args.link.now.second c.args.link.now.link.forwarder c.args.link.now.link.receiver end
+    (c.loop-step.invariant.runs end
+    (subst (λ (xs : List SwitchStep). SwitchRuns (map sample_of c.args.samples.now) xs end end) (sym (drop_all c.loop-step.step-index c.args.steps.now c.loop-step-test.false)) refl))
+
+pub returns-clause-stretches : goal.returns-clause-stretches
+returns-clause-stretches g c =
+    let link = c.loop-step.link in
+    let end : Switched = switched_of link.link.sender link.second link.link.forwarder link.link.receiver c.loop-step.run in
+    write_stretches (map sample_of c.args.samples.now) c.args.steps.now c.args.link.now.link.sender c.args.link.now.second c.args.link.now.link.forwarder c.args.link.now.link.receiver end
+    (c.loop-step.invariant.runs end
+    (subst (λ (xs : List SwitchStep). SwitchRuns (map sample_of c.args.samples.now) xs end end) (sym (drop_all c.loop-step.step-index c.args.steps.now c.loop-step-test.false)) refl))
+
+pub returns-clause-units_of_all : goal.returns-clause-units_of_all
+returns-clause-units_of_all g c =
+    let link = c.loop-step.link in
+    let end : Switched = switched_of link.link.sender link.second link.link.forwarder link.link.receiver c.loop-step.run in
+    release_all_stretches (map sample_of c.args.samples.now) c.args.steps.now c.args.link.now.link.sender c.args.link.now.second c.args.link.now.link.forwarder c.args.link.now.link.receiver end
     (c.loop-step.invariant.runs end
     (subst (λ (xs : List SwitchStep). SwitchRuns (map sample_of c.args.samples.now) xs end end) (sym (drop_all c.loop-step.step-index c.args.steps.now c.loop-step-test.false)) refl))
