@@ -16,7 +16,7 @@ const LONGEST_STREAM_NAME: usize = 32;
 /// equal ids read the same element.
 #[derive(Clone, Copy, Debug, Default, PartialEq, Eq)]
 pub struct StreamNameIds {
-    /// `urn:ietf:params:rtp-hdrext:sdes:mid` (RFC 8843, section 15).
+    /// `urn:ietf:params:rtp-hdrext:sdes:mid` (RFC 9143, section 15).
     pub mid: Option<u8>,
     /// `urn:ietf:params:rtp-hdrext:sdes:rtp-stream-id` (RFC 8852, section 3).
     pub rid: Option<u8>,
