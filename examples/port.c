@@ -201,7 +201,7 @@ static size_t answer(player *it) {
 
 static void begin_player(player *it, const cpay_session_format *format, uint32_t ssrc, int to) {
     cpay_sender_settings settings = {.spec = format->spec, .mtu = 1200, .ssrc = ssrc, .payload_type = format->payload_type};
-    cpay_history_settings keeps = {.limit = 512};
+    cpay_history_settings keeps = {.limit = 512, .interval = 1000}; /* ms: a packet is sent again at most once a second */
     check(cpay_sender_new(&it->sender, &settings), "sender");
     check(cpay_history_new(&it->history, &keeps), "history");
     it->to = to;
@@ -250,8 +250,9 @@ int main(int argc, char **argv) {
     check(cpay_session_finish(&it.session, now()), "finish");
     drain(&it);
     check(cpay_session_counts(&it.session, &counts), "counts");
-    printf("%" PRIu64 " datagrams, %" PRIu64 " of RTCP, %" PRIu64 " for no stream, %u requests\n", counts.received, counts.rtcp,
-           counts.malformed + counts.unknown + counts.refused + counts.unassociated, it.requests);
+    printf("%u requests of lost packets\n", it.requests);
+    printf("%" PRIu64 " datagrams, %" PRIu64 " of RTCP, %" PRIu64 " for no stream\n", counts.received, counts.rtcp,
+           counts.malformed + counts.unknown + counts.refused + counts.unassociated);
     end_player(&video);
     end_player(&audio);
     cpay_session_free(&it.session);
