@@ -107,10 +107,14 @@ static void keep(recorder *it, track *track, const uint8_t *bytes, size_t size) 
     if (track->file) require(fwrite(length, 1, 4, track->file) == 4 && fwrite(bytes, 1, size, track->file) == size, "fwrite");
 }
 
-/* Sends the session's RTCP about a stream to its sender. If it is lost, the session requests again. */
-static void request(recorder *it, const track *track, const uint8_t *bytes, size_t size) {
+/* Sends RTCP to the sender of a stream. What is lost on the way, the session requests or reports again. */
+static void send_rtcp(const recorder *it, const track *track, const uint8_t *bytes, size_t size) {
     (void)sendto(it->port, bytes, size, 0, (const struct sockaddr *)&track->from, sizeof track->from);
-    it->requests++;
+}
+
+/* Sends a receiver report, which is about all streams, to each sender. */
+static void report(const recorder *it, const uint8_t *bytes, size_t size) {
+    for (size_t i = 0; i < it->count; i++) send_rtcp(it, &it->tracks[i], bytes, size);
 }
 
 static void end(recorder *it, track *track, cpay_ending why) {
@@ -126,10 +130,12 @@ static void drain(recorder *it) {
     cpay_status status;
     while ((status = cpay_session_poll(&it->session, now(), &event)) == CPAY_OK) {
         track *track = track_of(it, &event);
+        it->requests += event.kind == CPAY_EVENT_FEEDBACK;
         if (event.kind == CPAY_EVENT_BEGUN) begin(it, &event);
+        else if (event.kind == CPAY_EVENT_REPORT) report(it, event.data, event.bytes);
         else if (!track) continue;
         else if (event.kind == CPAY_EVENT_UNIT) keep(it, track, event.data, event.bytes);
-        else if (event.kind == CPAY_EVENT_FEEDBACK) request(it, track, event.data, event.bytes);
+        else if (event.kind == CPAY_EVENT_FEEDBACK) send_rtcp(it, track, event.data, event.bytes);
         else if (event.kind == CPAY_EVENT_FAULT) fprintf(stderr, "a frame is lost: %s\n", cpay_status_text(event.status));
         else if (event.kind == CPAY_EVENT_ENDED) end(it, track, event.why);
     }
