@@ -1,5 +1,5 @@
 /* Records everything that arrives on a UDP port, and requests what is missing. Two senders on loopback play VP8 and Opus; every
- * 21st packet of the video is lost, and sent again on request; the audio leaves by a BYE. Each stream goes to a file in FOLDER,
+ * 21st packet of the video is lost, and retransmitted on request; the audio leaves by a BYE. Each stream goes to a file in FOLDER,
  * if it is given: for each unit its size as four bytes, and its bytes. Prints what came:
  *
  *     cc port.c $(pkg-config --cflags --libs codec-payload) && ./a.out [FOLDER]
@@ -162,7 +162,7 @@ static bool serve(recorder *it) {
     return ready > 0;
 }
 
-/* A sender of media, and what it sends again on request. */
+/* A sender of media, and the packets that it can retransmit. */
 typedef struct {
     cpay_sender sender;
     cpay_history history;
@@ -187,7 +187,7 @@ static size_t play(player *it, uint64_t rtp_time, size_t size, size_t lost) {
     return out;
 }
 
-/* Sends again what the RTCP that came requests, and returns how many datagrams went out. */
+/* Retransmits what the RTCP that came requests, and returns how many datagrams went out. */
 static size_t answer(player *it) {
     uint8_t rtcp[ROOM], datagram[ROOM];
     uint16_t numbers[MOST_REQUESTED];
@@ -207,7 +207,7 @@ static size_t answer(player *it) {
 
 static void begin_player(player *it, const cpay_session_format *format, uint32_t ssrc, int to) {
     cpay_sender_settings settings = {.spec = format->spec, .mtu = 1200, .ssrc = ssrc, .payload_type = format->payload_type};
-    cpay_history_settings keeps = {.limit = 512, .interval = 1000}; /* ms: a packet is sent again at most once a second */
+    cpay_history_settings keeps = {.limit = 512, .interval = 1000}; /* ms: a packet is retransmitted at most once a second */
     check(cpay_sender_new(&it->sender, &settings), "sender");
     check(cpay_history_new(&it->history, &keeps), "history");
     it->to = to;

@@ -366,9 +366,46 @@ fn all_frames_come_out_where_none_is_lost() -> Result<(), Fail> {
     Ok(())
 }
 
+/// The last steps of the runs of both theorems: three datagrams are delivered, the last two in the other order, and all units are popped.
+pub fn ends_of_theorem() -> impl Iterator<Item = SwitchStep> {
+    let deliver = |(written, now)| ForwardStep::Deliver {
+        written,
+        now: Ticks(now),
+    };
+    let delivers = [(0, 40), (2, 41), (1, 42)].map(deliver);
+    let pops = [ForwardStep::Pop { now: Ticks(43) }; 3];
+    let steps = delivers.into_iter().chain([ForwardStep::Finish]);
+    steps
+        .chain(pops)
+        .map(|step| SwitchStep::Of(Source::First, step))
+}
+
+/// Two sources of Opus, and two of VP8 with picture ids.
+pub fn links_of_theorem() -> Result<[SwitchLink<NoBox, NoBox>; 2], Fail> {
+    let opus = || CodecPacketizer::from_codec(Codec::Opus).ok_or("no packetizer");
+    let vp8 = || CodecPacketizer::Vp8(Vp8Packetizer::with_picture_id(300));
+    let link = |codec, one, two| -> Result<_, Fail> {
+        Ok(SwitchLink {
+            link: link_with(codec, whole_frames(Source::First, one)?)?,
+            second: whole_frames(Source::Second, two)?,
+        })
+    };
+    Ok([
+        link(Codec::Opus, opus()?, opus()?)?,
+        link(Codec::Vp8, vp8(), vp8())?,
+    ])
+}
+
+/// The samples that have these frames, 960 ticks apart.
+pub fn samples_of_theorem(frames: &[[u8; 3]]) -> Vec<ToPayload> {
+    (1..)
+        .zip(frames)
+        .map(|(place, frame)| sample_of(place * 960, frame))
+        .collect()
+}
+
 /// The steps of the theorem `switched_units_premises_can_be_met`: of the second source the second and third frame come to the viewer.
 fn steps_of_theorem() -> Vec<SwitchStep> {
-    let first = |step| SwitchStep::Of(Source::First, step);
     let sent = |source, frame, now| {
         let datagram = if source == Source::First { 0 } else { frame };
         [
@@ -381,30 +418,15 @@ fn steps_of_theorem() -> Vec<SwitchStep> {
     steps.push(SwitchStep::Want { ssrc: 9 });
     steps.extend(sent(Source::Second, 1, 1_920));
     steps.extend(sent(Source::Second, 2, 2_880));
-    for (written, now) in [(0, 40), (2, 41), (1, 42)] {
-        let now = Ticks(now);
-        steps.push(first(ForwardStep::Deliver { written, now }));
-    }
-    steps.push(first(ForwardStep::Finish));
-    steps.extend([first(ForwardStep::Pop { now: Ticks(43) }); 3]);
+    steps.extend(ends_of_theorem());
     steps
 }
 
 #[test]
 fn the_runs_of_the_theorem_go_over() -> Result<(), Fail> {
-    let opus = || CodecPacketizer::from_codec(Codec::Opus).ok_or("no packetizer");
-    let vp8 = || CodecPacketizer::Vp8(Vp8Packetizer::with_picture_id(300));
-    let links = [(Codec::Opus, opus()?, opus()?), (Codec::Vp8, vp8(), vp8())];
     let frames = [[0, 1, 0], [0, 1, 1], [1, 2, 2]];
-    let samples: Vec<ToPayload> = (1..)
-        .zip(&frames)
-        .map(|(place, frame)| sample_of(place * 960, frame))
-        .collect();
-    for (codec, one, two) in links {
-        let mut link = SwitchLink {
-            link: link_with(codec, whole_frames(Source::First, one)?)?,
-            second: whole_frames(Source::Second, two)?,
-        };
+    for mut link in links_of_theorem()? {
+        let samples = samples_of_theorem(&frames);
         let run = run_forwarded_switching(&mut link, &samples, &steps_of_theorem())?;
         let answers = [
             Forwarded::Began,

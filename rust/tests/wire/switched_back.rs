@@ -6,19 +6,17 @@ use std::cmp::max;
 use std::ops::Range;
 
 use crate::Fail;
-use crate::forwarded::{copies, following, link_with};
-use crate::sides::sample_of;
+use crate::forwarded::{copies, following};
 use crate::switched::{
-    BLOCKS, IDS, bytes_of, link_of, opus_link, popped_in, sample_in, samples, ssrc_of, whole_frames,
+    BLOCKS, IDS, bytes_of, ends_of_theorem, link_of, links_of_theorem, opus_link, popped_in,
+    sample_in, samples, samples_of_theorem, ssrc_of,
 };
-use codec_payload::codec::CodecPacketizer;
 use codec_payload::forward::Forwarded;
 use codec_payload::rtp::RtpPacket;
 use codec_payload::schedule::forwarded::{
-    ForwardStep, Source, SwitchLink, SwitchStep, run_forwarded_switching,
+    ForwardStep, Source, SwitchStep, run_forwarded_switching,
 };
-use codec_payload::vp8::Vp8Packetizer;
-use codec_payload::wire::{Codec, Ticks, ToPayload};
+use codec_payload::wire::Ticks;
 
 /// Datagrams of a source: the forwarder began with the first, and went over to the other source behind the last.
 struct Stretch {
@@ -220,7 +218,6 @@ fn each_written_datagram_has_the_number_of_its_place() -> Result<(), Fail> {
 /// The steps of the theorem `switched_back_premises_can_be_met`: a frame of the first source, the second frame of the second source, and
 /// the third of the first come to the viewer.
 fn steps_of_theorem() -> Vec<SwitchStep> {
-    let first = |step| SwitchStep::Of(Source::First, step);
     let sent = |source, datagram, now| {
         [
             SwitchStep::Of(source, ForwardStep::Send(datagram)),
@@ -234,30 +231,15 @@ fn steps_of_theorem() -> Vec<SwitchStep> {
     steps.extend(sent(Source::First, 1, 2_880));
     steps.push(SwitchStep::Want { ssrc: 7 });
     steps.extend(sent(Source::First, 2, 3_840));
-    for (written, now) in [(0, 40), (2, 41), (1, 42)] {
-        let now = Ticks(now);
-        steps.push(first(ForwardStep::Deliver { written, now }));
-    }
-    steps.push(first(ForwardStep::Finish));
-    steps.extend([first(ForwardStep::Pop { now: Ticks(43) }); 3]);
+    steps.extend(ends_of_theorem());
     steps
 }
 
 #[test]
 fn the_runs_of_the_theorem_go_back() -> Result<(), Fail> {
-    let opus = || CodecPacketizer::from_codec(Codec::Opus).ok_or("no packetizer");
-    let vp8 = || CodecPacketizer::Vp8(Vp8Packetizer::with_picture_id(300));
-    let links = [(Codec::Opus, opus()?, opus()?), (Codec::Vp8, vp8(), vp8())];
     let frames = [[0, 1, 0], [0, 1, 1], [0, 2, 2]];
-    let samples: Vec<ToPayload> = (1..)
-        .zip(&frames)
-        .map(|(place, frame)| sample_of(place * 960, frame))
-        .collect();
-    for (codec, one, two) in links {
-        let mut link = SwitchLink {
-            link: link_with(codec, whole_frames(Source::First, one)?)?,
-            second: whole_frames(Source::Second, two)?,
-        };
+    for mut link in links_of_theorem()? {
+        let samples = samples_of_theorem(&frames);
         let run = run_forwarded_switching(&mut link, &samples, &steps_of_theorem())?;
         let answers = [
             Forwarded::Began,
