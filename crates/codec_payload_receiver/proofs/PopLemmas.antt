@@ -1,17 +1,16 @@
 -- Pops of a receiver: the parts of the keyframe gate that they leave unchanged.
 use Rattle.std.proofs.Common.{◌≡◌, ◌∙◌, ◌==◌, ◌&&◌, ◌||◌, not, Bool, true, false, Option, Some, None, Result, Ok, Err, ℕ, ◌+◌, ◌%◌, ◌^◌, refl, sym, ap, subst, arith, length, ◌<◌, ◌≤◌}
-use Rattle.std.specs.Prelude.{⊤, is_some}
+use Rattle.std.specs.Prelude.{⊤}
 use Rattle.std.proofs.lemmas.Bool.{false≢true}
 use Rattle.codec_payload_metadata.specs.Release.{Release}
 use Rattle.codec_payload_base.specs.declared.error.PacketError.{PacketError}
 use Rattle.codec_payload_buffer.specs.Steps.{HasTaken, State, popped_to}
 use Rattle.codec_payload_jitter.specs.Receiving.{PopsWith, Receiving, settled, waiting_at}
-use Rattle.codec_payload_keyframes.specs.References.{no_references}
 use Rattle.codec_payload_keyframes.specs.UnitGates.{Gating, is_passed, is_shown, with_loss}
 use Rattle.codec_payload_keyframes.specs.declared.references.UnitReferences.{UnitReferences}
 use Rattle.codec_payload_receiver.specs.Bounds.{is_over}
 use Rattle.codec_payload_receiver.specs.Noting.{Noting, TakesNotes}
-use Rattle.codec_payload_receiver.specs.Pops.{DropsUnits, Answer, PassesOnce, PopsGated, PopsOnce, after_fault, bound_if, gates_after, gates_if, has_left, is_answered, is_large, is_memory, is_passed_on, is_unit, none_dropped, one_more, time_if, without_unit}
+use Rattle.codec_payload_receiver.specs.Pops.{DropsUnits, Answer, PassesOnce, PopsGated, PopsOnce, after_fault, bound_if, gates_after, gates_if, has_left, is_answered, is_large, is_memory, is_passed_on, is_unit, none_dropped, one_more, time_if}
 use Rattle.codec_payload_receiver.specs.Sessions.{IsSorted, Session, time_with}
 use Rattle.codec_payload_receiver.specs.declared.bound.UnitBound.{UnitBound}
 use Rattle.codec_payload_receiver.specs.declared.receiver.Arrived.{Arrived}
@@ -133,19 +132,6 @@ module _ (now : ℕ) (s t : Session) (answer : Answer) (packets : Receiving) (re
     },
     passes ∙ ap (λ (b : Bool). b || is_passed_on s.gates answer references) (sym large),
   )
-
--- no answer, and no packet left
-nothing_once : (now : ℕ) (s t : Session) (packets : Receiving) → PopsWith (waiting_at (settled s.packets) now) (settled s.packets) None packets → has_left s.packets packets ≡ false
-    → t ≡ record s { packets = packets } → PassesOnce now s None true t
-nothing_once now s t packets pops stays is =
-    others_after now s t None packets no_references s.notes pops (refl, refl) true refl refl
-    (is ∙ ap (λ (b : Bool). record s { packets = packets; gates = without_unit s.gates b }) (sym stays))
-
-pub nothing_to : (now : ℕ) (s t : Session) (answer : Option (Result ⊤ PacketError)) (unit : Release) (packets : Receiving) → is_some answer ≡ false
-    → PopsWith (waiting_at (settled s.packets) now) (settled s.packets) (popped_to answer unit) packets → has_left s.packets packets ≡ false
-    → t ≡ record s { packets = packets } → PassesOnce now s (popped_to answer unit) true t
-nothing_to now s t None unit packets none pops stays is = nothing_once now s t packets pops stays is
-nothing_to now s t (Some x) unit packets none pops stays is = absurd (false≢true (sym none))
 
 and_true : (b : Bool) → (b && true) ≡ b
 and_true true = refl

@@ -1,6 +1,6 @@
 //! How the datagrams of a stream reach its jitter buffer.
 
-ghost use Rattle.std.specs.Prelude.{◌≡◌, ◌||◌, not, map, IfOk, OnErr, false, true};
+ghost use Rattle.std.specs.Prelude.{◌≡◌, ◌||◌, not, map, IfOk, OnOk, OnErr, false, true};
 ghost use Rattle.codec_payload_rtp.specs.RtpValues.{header_of, packet_of};
 ghost use Rattle.codec_payload_codec.specs.Depacketizers.{is_built_in_depacketizer};
 ghost use Rattle.codec_payload_jitter.specs.OwnReceiving.{OwnStores};
@@ -51,17 +51,32 @@ impl StreamKinds {
     fn packed_header_for(&self, header: &PacketHeader<'_>) -> Result<PackedHeader, AllocError>
         ensures { IfOk result (λ packed. packed ≡ header_for self.now (header_of header.now)) }
     {
+        let mut packed = PackedHeader::plain(
+            Pt::new_with_value(self.payload_type),
+            header.sequence_number,
+            header.timestamp,
+            header.ssrc,
+            header.marker,
+        );
         if header.extension.is_none() {
-            return Ok(PackedHeader::plain(
-                Pt::new_with_value(self.payload_type),
-                header.sequence_number,
-                header.timestamp,
-                header.ssrc,
-                header.marker,
-            ));
+            return Ok(packed);
         }
-        match self.ids.small_values(&header.extension) {
-            Some(values) => Ok(PackedHeader::plain(
+        self.pack_with_values(header, &mut packed)?;
+        Ok(packed)
+    }
+
+    /// Writes the same header, of a packet with a header extension, over this one. The header stays in memory, since its values would
+    /// fill many registers.
+    #[inline(never)]
+    fn pack_with_values(
+        &self,
+        header: &PacketHeader<'_>,
+        packed: &mut PackedHeader,
+    ) -> Result<(), AllocError>
+        ensures { OnOk result (packed.new ≡ header_for self.now (header_of header.now)) }
+    {
+        *packed = match self.ids.small_values(&header.extension) {
+            Some(values) => PackedHeader::plain(
                 Pt::new_with_value(self.payload_type),
                 header.sequence_number,
                 header.timestamp,
@@ -73,9 +88,10 @@ impl StreamKinds {
                 values.video_content_type,
                 values.audio_level,
                 values.voice_activity,
-            )),
-            None => self.whole_header_for(header),
-        }
+            ),
+            None => self.whole_header_for(header)?,
+        };
+        Ok(())
     }
 
     /// Returns the same header of a packet with other values than small ones. Most packets have none.

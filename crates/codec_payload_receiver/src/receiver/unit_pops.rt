@@ -66,12 +66,33 @@ impl<B: Depacketizer> Receiver<B> {
         // A custom depacketizer is asked once for each payload of the unit.
         ensures own { is_built_in_depacketizer self.old.packets.buffer.depacketizer ≡ false → OwnPopsGated B.state B.depacketize_step now.0 self.old (popped_to result unit.new) }
     {
+        let (answer, is_passed) = self.pop_unit_once(now, unit);
+        if is_passed {
+            return answer;
+        }
         loop {
-            let (answer, is_passed) = self.pop_unit_once(now, unit);
+            let (answer, is_passed) = self.pop_unit_again(now, unit);
             if is_passed {
                 return answer;
             }
         }
+    }
+
+    /// Does the same as [`Receiver::pop_unit_once`], after a unit that was dropped.
+    #[cold]
+    #[inline(never)]
+    fn pop_unit_again(
+        &mut self,
+        now: Ticks,
+        unit: &mut PoppedUnit,
+    ) -> (Option<Result<(), PacketError>>, bool)
+        ensures pops { PassesOnce now.0 self.old (popped_to result.0 unit.new) result.1 self.new }
+        ensures some { HasPacketsIn result.0 unit.new }
+        ensures drained { is_pressed (settled self.old.packets) now.0 ≡ true → result.0 ≡ Option.None → length (frames self.new.packets.buffer.held) ≤ 0 }
+        ensures fewer { HasTaken (popped_to result.0 unit.new) self.old.packets.buffer self.new.packets.buffer }
+        ensures own { is_built_in_depacketizer self.old.packets.buffer.depacketizer ≡ false → OwnPopsOnce B.state B.depacketize_step now.0 self.old (popped_to result.0 unit.new) }
+    {
+        self.pop_unit_once(now, unit)
     }
 
     /// Pops the jitter buffer once into this unit, and returns whether the answer is passed on.
@@ -87,19 +108,17 @@ impl<B: Depacketizer> Receiver<B> {
         ensures fewer { HasTaken (popped_to result.0 unit.new) self.old.packets.buffer self.new.packets.buffer }
         ensures own { is_built_in_depacketizer self.old.packets.buffer.depacketizer ≡ false → OwnPopsOnce B.state B.depacketize_step now.0 self.old (popped_to result.0 unit.new) }
     {
+        // At the front, the compiler writes it once.
+        let mut references = UnitReferences::none();
         let left = self.packets.counters().left;
         let answer = self.packets.pop_unit(now, unit);
-        let has_left = self.packets.counters().left != left;
-        if answer.is_none() && !has_left {
-            return (answer, true);
-        }
-        let mut references = UnitReferences::none();
         take_notes_in(&mut self.notes, &answer, unit, &mut references);
         if self.bound.note_in(&answer, unit) {
             self.gates.lose();
             return (answer, true);
         }
         extend_to(&mut self.times, &answer, unit);
+        let has_left = self.packets.counters().left != left;
         let is_passed = follow_to(&mut self.gates, &answer, unit, &references, has_left);
         (answer, is_passed)
     }

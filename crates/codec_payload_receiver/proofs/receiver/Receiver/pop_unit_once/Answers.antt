@@ -1,6 +1,4 @@
-use Rattle.std.proofs.Common.{◌≡◌, ◌∙◌, ℕ, ap, refl, subst, sym, true, false, arith, Option}
-use Rattle.std.proofs.lemmas.Bool.Decides.{nat_tests}
-use Rattle.std.specs.Prelude.{is_some, not}
+use Rattle.std.proofs.Common.{◌≡◌, ◌∙◌, ℕ, ap, subst, sym, true, false, Option}
 use Rattle.std.specs.Option.{option_map}
 use Rattle.codec_payload_buffer.specs.Steps.{popped_to}
 use Rattle.codec_payload_jitter.specs.Receiving.{Receiving, settled, waiting_at}
@@ -11,7 +9,7 @@ use Rattle.codec_payload_receiver.specs.Noting.{Noting, noting_of}
 use Rattle.codec_payload_receiver.specs.Pops.{Answer, PassesOnce, bound_if, gates_after, has_left, is_large}
 use Rattle.codec_payload_receiver.specs.Sessions.{Session, time_with}
 use Rattle.codec_payload_receiver.specs.declared.bound.UnitBound.{UnitBound}
-use Rattle.codec_payload_receiver.proofs.PopLemmas.{gates_by, nothing_to, others_after, over_after, still_sorted}
+use Rattle.codec_payload_receiver.proofs.PopLemmas.{gates_by, others_after, over_after, still_sorted}
 use Rattle.codec_payload_receiver.proofs.receiver.Receiver.pop_unit_once.Goals as goal
 
 pub invariant_of-self : goal.invariant_of-self
@@ -19,33 +17,6 @@ invariant_of-self g c = still_sorted c.self.inside.arrived (waiting_at (settled 
 
 pub invariant_of-self-2 : goal.invariant_of-self-2
 invariant_of-self-2 g c = still_sorted c.self.inside.arrived (waiting_at (settled c.self.inside.packets) c.args.now.0) c.self.inside.packets c.pop_unit-answer.new.self (popped_to c.pop_unit-answer.result c.pop_unit-answer.new.unit) c.pop_unit-answer.ensures.pops c.self.invariant
-
-pub invariant_of-self-then-note_in : goal.invariant_of-self-then-note_in
-invariant_of-self-then-note_in g c = still_sorted c.self.inside.arrived (waiting_at (settled c.self.inside.packets) c.args.now.0) c.self.inside.packets c.pop_unit-answer.new.self (popped_to c.pop_unit-answer.result c.pop_unit-answer.new.unit) c.pop_unit-answer.ensures.pops c.self.invariant
-
-pub returns-then-not-has_left-clause-pops : goal.returns-then-not-has_left-clause-pops
-returns-then-not-has_left-clause-pops g c =
-    let s : Session = record {
-      stream = c.self.inside.stream;
-      named = c.self.inside.named;
-      ssrc = c.self.inside.ssrc;
-      packets = c.self.inside.packets;
-      arrived = c.self.inside.arrived;
-      time = c.self.inside.times;
-      reception = c.self.inside.statistics;
-      choice = c.self.inside.choice;
-      seen = c.self.inside.seen;
-      gates = c.self.inside.gates;
-      bound = c.self.inside.bound;
-      notes = option_map noting_of c.self.inside.notes;
-    } in
-    let after : Receiving = c.pop_unit-answer.new.self in
-    let none : is_some c.pop_unit-answer.result ≡ false = c.is_none.ensures ∙ ap not c.if-is_none.true in
-    let same : after.counters.left ≡ s.packets.counters.left =
-    sym (ap (λ (k : PacketCounters). k.left) c.counters.ensures.value) ∙ c.if-not-has_left.true ∙ ap (λ (k : PacketCounters). k.left) c.counters-left.ensures.value in
-    let stays : has_left s.packets after ≡ false = grind (arith, nat_tests, same) in
-    subst (λ (x : Session). PassesOnce c.args.now.0 x (popped_to c.pop_unit-answer.result c.pop_unit-answer.new.unit) true (record s { packets = after })) c.self.view_is
-    (nothing_to c.args.now.0 s (record s { packets = after }) c.pop_unit-answer.result c.pop_unit-answer.new.unit after none c.pop_unit-answer.ensures.pops stays refl)
 
 pub returns-then-note_in-clause-pops : goal.returns-then-note_in-clause-pops
 returns-then-note_in-clause-pops g c =
