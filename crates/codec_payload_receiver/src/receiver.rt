@@ -348,7 +348,10 @@ impl<B: Depacketizer> Receiver<B> {
         // A custom depacketizer decides whether a packet that is stored begins and ends a unit.
         ensures own { is_built_in_depacketizer self.old.packets.buffer.depacketizer ≡ false → OwnStores B.is_head B.is_tail self.old.packets.buffer self.new.packets.buffer }
     {
-        self.receive_parsed(now, &ParsedDatagram::parse(bytes))
+        match ParsedDatagram::parse_plain(bytes) {
+            Some(datagram) => self.receive_read(now, &datagram),
+            None => self.receive_parsed(now, &ParsedDatagram::parse_parts(bytes)),
+        }
     }
 
     /// Does the same as [`Receiver::receive`], for a datagram that was read: its header is not read again.
@@ -363,6 +366,19 @@ impl<B: Depacketizer> Receiver<B> {
     ) -> Result<Outcome, ReceiveError>
         ensures received { ReceivesBytes now datagram.now self.old result self.new }
         // A custom depacketizer decides whether a packet that is stored begins and ends a unit.
+        ensures own { is_built_in_depacketizer self.old.packets.buffer.depacketizer ≡ false → OwnStores B.is_head B.is_tail self.old.packets.buffer self.new.packets.buffer }
+    {
+        self.receive_read(now, datagram)
+    }
+
+    /// Does the same, within its caller.
+    #[inline(always)]
+    fn receive_read(
+        &mut self,
+        now: Ticks,
+        datagram: &ParsedDatagram<'_>,
+    ) -> Result<Outcome, ReceiveError>
+        ensures received { ReceivesBytes now datagram.now self.old result self.new }
         ensures own { is_built_in_depacketizer self.old.packets.buffer.depacketizer ≡ false → OwnStores B.is_head B.is_tail self.old.packets.buffer self.new.packets.buffer }
     {
         match self.verdict(now, datagram) {
