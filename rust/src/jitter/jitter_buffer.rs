@@ -393,8 +393,21 @@ impl<B: Depacketizer> JitterBuffer<B> {
     /// Stores, keeps or counts a packet, by the answer for its number.
     #[inline(always)]
     fn receive_as(&mut self, answer: Extended, packet: KeptPacket) -> Result<Outcome, PacketError> {
+        if let Extended::Number(number) = answer {
+            return self.store_and_note(number, packet);
+        }
+        self.receive_rarely(answer, packet)
+    }
+
+    /// Does the same for a packet that is suspect or confirms a restart. So the way of most packets passes none in memory.
+    #[inline(never)]
+    fn receive_rarely(
+        &mut self,
+        answer: Extended,
+        packet: KeptPacket,
+    ) -> Result<Outcome, PacketError> {
         match answer {
-            Extended::Number(number) => self.store_and_note(number, packet),
+            Extended::Number(_) => unreachable!(),
             Extended::Restarted(number) => self.restart_after_former(number, packet),
             Extended::Suspect => {
                 self.keep(packet);

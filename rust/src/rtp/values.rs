@@ -118,6 +118,7 @@ impl ExtensionIds {
     /// Returns the values of one byte in the extension of a packet, as [`ExtensionIds::values`] does. `None`: an element has the id of
     /// another value. Most packets have none of those, and copying the room for them takes longer than reading the elements. Reads the
     /// elements once, and does not allocate.
+    #[inline(always)]
     pub fn small_values(&self, extension: &Option<HeaderExtension<'_>>) -> Option<SmallValues> {
         let Some(extension) = extension else {
             return Some(SmallValues::default());

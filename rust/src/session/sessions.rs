@@ -151,15 +151,29 @@ impl Session {
     }
 
     /// Receives a datagram that arrived on the transport at `time`, in quarters of a millisecond modulo 2^32.
+    #[inline(always)]
     fn receive_timed(
         &mut self,
         now: Ticks,
         time: u32,
         datagram: &[u8],
     ) -> Result<Arrival, AllocError> {
-        let datagram = ParsedDatagram::parse(datagram);
-        note(&mut self.transport, time, &datagram)?;
-        self.receive_parsed(now, &datagram)
+        match ParsedDatagram::parse_plain(datagram) {
+            Some(datagram) => self.receive_read(now, time, &datagram),
+            None => self.receive_read(now, time, &ParsedDatagram::parse_parts(datagram)),
+        }
+    }
+
+    /// Receives a datagram that was read, at this time on the transport.
+    #[inline(never)]
+    fn receive_read(
+        &mut self,
+        now: Ticks,
+        time: u32,
+        datagram: &ParsedDatagram<'_>,
+    ) -> Result<Arrival, AllocError> {
+        note(&mut self.transport, time, datagram)?;
+        self.receive_parsed(now, datagram)
     }
 
     /// Receives a datagram that was read. No later step reads it again.

@@ -335,7 +335,10 @@ impl<B: Depacketizer> Receiver<B> {
     /// - `BlocksOutOfMemory`: the RED packet itself was received; see [`ReceiveError::BlocksOutOfMemory`].
     /// - `Rtp`, `Red`, `Retransmission`: the datagram is counted as malformed, and the stream continues.
     pub fn receive(&mut self, now: Ticks, bytes: &[u8]) -> Result<Outcome, ReceiveError> {
-        self.receive_parsed(now, &ParsedDatagram::parse(bytes))
+        match ParsedDatagram::parse_plain(bytes) {
+            Some(datagram) => self.receive_read(now, &datagram),
+            None => self.receive_parsed(now, &ParsedDatagram::parse_parts(bytes)),
+        }
     }
 
     /// Does the same as [`Receiver::receive`], for a datagram that was read: its header is not read again.
@@ -344,6 +347,16 @@ impl<B: Depacketizer> Receiver<B> {
     ///
     /// Those of [`Receiver::receive`].
     pub fn receive_parsed(
+        &mut self,
+        now: Ticks,
+        datagram: &ParsedDatagram<'_>,
+    ) -> Result<Outcome, ReceiveError> {
+        self.receive_read(now, datagram)
+    }
+
+    /// Does the same, within its caller.
+    #[inline(always)]
+    fn receive_read(
         &mut self,
         now: Ticks,
         datagram: &ParsedDatagram<'_>,

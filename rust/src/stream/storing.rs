@@ -40,17 +40,30 @@ impl StreamKinds {
     /// Returns the same header, packed. Allocates only for rare values.
     #[inline(always)]
     fn packed_header_for(&self, header: &PacketHeader<'_>) -> Result<PackedHeader, AllocError> {
+        let mut packed = PackedHeader::plain(
+            Pt::new_with_value(self.payload_type),
+            header.sequence_number,
+            header.timestamp,
+            header.ssrc,
+            header.marker,
+        );
         if header.extension.is_none() {
-            return Ok(PackedHeader::plain(
-                Pt::new_with_value(self.payload_type),
-                header.sequence_number,
-                header.timestamp,
-                header.ssrc,
-                header.marker,
-            ));
+            return Ok(packed);
         }
-        match self.ids.small_values(&header.extension) {
-            Some(values) => Ok(PackedHeader::plain(
+        self.pack_with_values(header, &mut packed)?;
+        Ok(packed)
+    }
+
+    /// Writes the same header, of a packet with a header extension, over this one. The header stays in memory, since its values would
+    /// fill many registers.
+    #[inline(never)]
+    fn pack_with_values(
+        &self,
+        header: &PacketHeader<'_>,
+        packed: &mut PackedHeader,
+    ) -> Result<(), AllocError> {
+        *packed = match self.ids.small_values(&header.extension) {
+            Some(values) => PackedHeader::plain(
                 Pt::new_with_value(self.payload_type),
                 header.sequence_number,
                 header.timestamp,
@@ -62,9 +75,10 @@ impl StreamKinds {
                 values.video_content_type,
                 values.audio_level,
                 values.voice_activity,
-            )),
-            None => self.whole_header_for(header),
-        }
+            ),
+            None => self.whole_header_for(header)?,
+        };
+        Ok(())
     }
 
     /// Returns the same header of a packet with other values than small ones. Most packets have none.

@@ -35,12 +35,27 @@ impl<B: Depacketizer> Receiver<B> {
         now: Ticks,
         unit: &mut PoppedUnit,
     ) -> Option<Result<(), PacketError>> {
+        let (answer, is_passed) = self.pop_unit_once(now, unit);
+        if is_passed {
+            return answer;
+        }
         loop {
-            let (answer, is_passed) = self.pop_unit_once(now, unit);
+            let (answer, is_passed) = self.pop_unit_again(now, unit);
             if is_passed {
                 return answer;
             }
         }
+    }
+
+    /// Does the same as [`Receiver::pop_unit_once`], after a unit that was dropped.
+    #[cold]
+    #[inline(never)]
+    fn pop_unit_again(
+        &mut self,
+        now: Ticks,
+        unit: &mut PoppedUnit,
+    ) -> (Option<Result<(), PacketError>>, bool) {
+        self.pop_unit_once(now, unit)
     }
 
     /// Pops the jitter buffer once into this unit, and returns whether the answer is passed on.
@@ -50,19 +65,17 @@ impl<B: Depacketizer> Receiver<B> {
         now: Ticks,
         unit: &mut PoppedUnit,
     ) -> (Option<Result<(), PacketError>>, bool) {
+        // At the front, the compiler writes it once.
+        let mut references = UnitReferences::none();
         let left = self.packets.counters().left;
         let answer = self.packets.pop_unit(now, unit);
-        let has_left = self.packets.counters().left != left;
-        if answer.is_none() && !has_left {
-            return (answer, true);
-        }
-        let mut references = UnitReferences::none();
         take_notes_in(&mut self.notes, &answer, unit, &mut references);
         if self.bound.note_in(&answer, unit) {
             self.gates.lose();
             return (answer, true);
         }
         extend_to(&mut self.times, &answer, unit);
+        let has_left = self.packets.counters().left != left;
         let is_passed = follow_to(&mut self.gates, &answer, unit, &references, has_left);
         (answer, is_passed)
     }
