@@ -10,9 +10,8 @@ use crate::interface::CodecExtra;
 use crate::memory::{AllocError, One, TryVec};
 use crate::metadata::known::PackedMeta;
 use crate::metadata::meta::RtpMeta;
-use crate::metadata::packed_header::PackedHeader;
 use crate::queue::tiers::TieredQueue;
-use crate::wire::{MediaTime, Pt, SeqNo, Ticks};
+use crate::wire::Ticks;
 use alloc::vec::Vec;
 use core::mem;
 
@@ -31,37 +30,26 @@ const LARGE_PAYLOAD: usize = 2_048;
 /// Puts a packet in a memory block, a kept one if there is one.
 #[inline(always)]
 fn in_block(spare: &mut Vec<One<Packet>>, packet: Packet) -> Result<One<Packet>, AllocError> {
-    let mut block = match spare.pop() {
-        Some(block) => block,
-        None => new_block(spare)?,
-    };
-    let Packet {
-        known,
-        bytes,
-        other_end,
-        row_head,
-        head,
-        tail,
-    } = packet;
-    block.known = known;
-    block.bytes = bytes;
-    block.other_end = other_end;
-    block.row_head = row_head;
-    block.head = head;
-    block.tail = tail;
-    Ok(block)
-}
-
-/// Allocates a memory block, with a packet that says nothing. So no packet is passed in memory, which would take longer for all.
-#[cold]
-#[inline(never)]
-fn new_block(spare: &mut Vec<One<Packet>>) -> Result<One<Packet>, AllocError> {
+    if let Some(mut block) = spare.pop() {
+        let Packet {
+            known,
+            bytes,
+            other_end,
+            row_head,
+            head,
+            tail,
+        } = packet;
+        block.known = known;
+        block.bytes = bytes;
+        block.other_end = other_end;
+        block.row_head = row_head;
+        block.head = head;
+        block.tail = tail;
+        return Ok(block);
+    }
     if spare.capacity() < KEPT_BLOCKS {
         spare.try_exact(KEPT_BLOCKS)?;
     }
-    let header = PackedHeader::plain(Pt::new_with_value(0), 0, 0, 0, false);
-    let known = PackedMeta::new(Ticks(0), MediaTime::from_90khz(0), SeqNo(0), header);
-    let packet = Packet::of(known, Vec::new(), false, false);
     Ok(One::try_new(packet)?)
 }
 
