@@ -41,14 +41,29 @@ impl<'a> ParsedDatagram<'a> {
         }
     }
 
-    /// Reads a datagram that is a plain RTP packet, as [`RtpPacket::parse_plain`] does. `None`: it is none, and
+    /// Reads a datagram that is a plain RTP packet, as [`RtpPacket::parse_plain`] does. `None`: it is none;
     /// [`ParsedDatagram::parse_parts`] reads it. A caller that passes each answer on by itself saves the copies of a value that comes
-    /// from two places.
+    /// from several places.
     #[inline(always)]
     pub fn parse_plain(bytes: &'a [u8]) -> Option<ParsedDatagram<'a>>
         ensures { IfSome result (λ d. d ≡ bytes.now) }
     {
         match RtpPacket::parse_plain(bytes) {
+            Some(packet) => Some(ParsedDatagram {
+                bytes,
+                is_rtcp: is_rtcp(bytes),
+                packet: Ok(packet),
+            }),
+            None => None,
+        }
+    }
+
+    /// Does the same for an RTP packet with a header extension, as [`RtpPacket::parse_extended`] does.
+    #[inline(always)]
+    pub fn parse_extended(bytes: &'a [u8]) -> Option<ParsedDatagram<'a>>
+        ensures { IfSome result (λ d. d ≡ bytes.now) }
+    {
+        match RtpPacket::parse_extended(bytes) {
             Some(packet) => Some(ParsedDatagram {
                 bytes,
                 is_rtcp: is_rtcp(bytes),

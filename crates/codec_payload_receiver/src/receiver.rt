@@ -348,10 +348,13 @@ impl<B: Depacketizer> Receiver<B> {
         // A custom depacketizer decides whether a packet that is stored begins and ends a unit.
         ensures own { is_built_in_depacketizer self.old.packets.buffer.depacketizer ≡ false → OwnStores B.is_head B.is_tail self.old.packets.buffer self.new.packets.buffer }
     {
-        match ParsedDatagram::parse_plain(bytes) {
-            Some(datagram) => self.receive_read(now, &datagram),
-            None => self.receive_parsed(now, &ParsedDatagram::parse_parts(bytes)),
+        if let Some(datagram) = ParsedDatagram::parse_plain(bytes) {
+            return self.receive_read(now, &datagram);
         }
+        if let Some(datagram) = ParsedDatagram::parse_extended(bytes) {
+            return self.receive_parsed(now, &datagram);
+        }
+        self.receive_parsed(now, &ParsedDatagram::parse_parts(bytes))
     }
 
     /// Does the same as [`Receiver::receive`], for a datagram that was read: its header is not read again.

@@ -158,10 +158,13 @@ impl Session {
         time: u32,
         datagram: &[u8],
     ) -> Result<Arrival, AllocError> {
-        match ParsedDatagram::parse_plain(datagram) {
-            Some(datagram) => self.receive_read(now, time, &datagram),
-            None => self.receive_read(now, time, &ParsedDatagram::parse_parts(datagram)),
+        if let Some(datagram) = ParsedDatagram::parse_plain(datagram) {
+            return self.receive_read(now, time, &datagram);
         }
+        if let Some(datagram) = ParsedDatagram::parse_extended(datagram) {
+            return self.receive_read(now, time, &datagram);
+        }
+        self.receive_read(now, time, &ParsedDatagram::parse_parts(datagram))
     }
 
     /// Receives a datagram that was read, at this time on the transport.

@@ -335,10 +335,13 @@ impl<B: Depacketizer> Receiver<B> {
     /// - `BlocksOutOfMemory`: the RED packet itself was received; see [`ReceiveError::BlocksOutOfMemory`].
     /// - `Rtp`, `Red`, `Retransmission`: the datagram is counted as malformed, and the stream continues.
     pub fn receive(&mut self, now: Ticks, bytes: &[u8]) -> Result<Outcome, ReceiveError> {
-        match ParsedDatagram::parse_plain(bytes) {
-            Some(datagram) => self.receive_read(now, &datagram),
-            None => self.receive_parsed(now, &ParsedDatagram::parse_parts(bytes)),
+        if let Some(datagram) = ParsedDatagram::parse_plain(bytes) {
+            return self.receive_read(now, &datagram);
         }
+        if let Some(datagram) = ParsedDatagram::parse_extended(bytes) {
+            return self.receive_parsed(now, &datagram);
+        }
+        self.receive_parsed(now, &ParsedDatagram::parse_parts(bytes))
     }
 
     /// Does the same as [`Receiver::receive`], for a datagram that was read: its header is not read again.

@@ -37,58 +37,43 @@ impl StreamKinds {
         }
     }
 
-    /// Returns the same header, packed. Allocates only for rare values.
+    /// Returns the same header of a packet without a header extension, packed.
     #[inline(always)]
-    fn packed_header_for(&self, header: &PacketHeader<'_>) -> Result<PackedHeader, AllocError> {
-        let mut packed = PackedHeader::plain(
+    fn plain_header_for(&self, header: &PacketHeader<'_>) -> PackedHeader {
+        PackedHeader::plain(
             Pt::new_with_value(self.payload_type),
             header.sequence_number,
             header.timestamp,
             header.ssrc,
             header.marker,
-        );
-        if header.extension.is_none() {
-            return Ok(packed);
-        }
-        self.pack_with_values(header, &mut packed)?;
-        Ok(packed)
+        )
     }
 
-    /// Writes the same header, of a packet with a header extension, over this one. The header stays in memory, since its values would
-    /// fill many registers.
-    #[inline(never)]
-    fn pack_with_values(
-        &self,
-        header: &PacketHeader<'_>,
-        packed: &mut PackedHeader,
-    ) -> Result<(), AllocError> {
-        *packed = match self.ids.small_values(&header.extension) {
-            Some(values) => PackedHeader::plain(
-                Pt::new_with_value(self.payload_type),
-                header.sequence_number,
-                header.timestamp,
-                header.ssrc,
-                header.marker,
-            )
-            .with_small_values(
-                values.video_orientation,
-                values.video_content_type,
-                values.audio_level,
-                values.voice_activity,
+    /// Returns the same header, packed. `None`: the packet has other values than small ones. Most packets have none.
+    #[inline(always)]
+    fn small_header_for(&self, header: &PacketHeader<'_>) -> Option<PackedHeader> {
+        match self.ids.small_values(&header.extension) {
+            Some(values) => Some(
+                PackedHeader::plain(
+                    Pt::new_with_value(self.payload_type),
+                    header.sequence_number,
+                    header.timestamp,
+                    header.ssrc,
+                    header.marker,
+                )
+                .with_small_values(
+                    values.video_orientation,
+                    values.video_content_type,
+                    values.audio_level,
+                    values.voice_activity,
+                ),
             ),
-            None => self.whole_header_for(header)?,
-        };
-        Ok(())
+            None => None,
+        }
     }
 
-    /// Returns the same header of a packet with other values than small ones. Most packets have none.
-    #[cold]
-    #[inline(never)]
-    fn whole_header_for(&self, header: &PacketHeader<'_>) -> Result<PackedHeader, AllocError> {
-        PackedHeader::new(&self.header_for(header))
-    }
-
-    /// Stores a packet with media in the jitter buffer. The header of a retransmission has the original number and SSRC.
+    /// Stores a packet with media in the jitter buffer. The header of a retransmission has the original number and SSRC. Packets with
+    /// and without a header extension are stored in two places: a header that comes from both would be copied field by field.
     #[inline(always)]
     fn push<B: Depacketizer>(
         &self,
@@ -98,14 +83,58 @@ impl StreamKinds {
         payload: &[u8],
         is_again: bool,
     ) -> Result<Outcome, AllocError> {
-        let payload = packets.copy_of(payload)?;
         if is_again {
-            return match packets.push_retransmitted(now, self.header_for(header), payload) {
-                Ok(outcome) => Ok(outcome),
-                Err(_) => Err(AllocError),
-            };
+            return self.push_again(packets, now, header, payload);
         }
-        match packets.push_packed(now, self.packed_header_for(header)?, payload) {
+        if header.extension.is_none() {
+            return push_packed(packets, now, self.plain_header_for(header), payload);
+        }
+        self.push_with_values(packets, now, header, payload)
+    }
+
+    /// Stores the packet of a retransmission.
+    #[inline(never)]
+    fn push_again<B: Depacketizer>(
+        &self,
+        packets: &mut JitterBuffer<B>,
+        now: Ticks,
+        header: &PacketHeader<'_>,
+        payload: &[u8],
+    ) -> Result<Outcome, AllocError> {
+        let payload = packets.copy_of(payload)?;
+        match packets.push_retransmitted(now, self.header_for(header), payload) {
+            Ok(outcome) => Ok(outcome),
+            Err(_) => Err(AllocError),
+        }
+    }
+
+    /// Stores a packet with a header extension.
+    #[inline(never)]
+    fn push_with_values<B: Depacketizer>(
+        &self,
+        packets: &mut JitterBuffer<B>,
+        now: Ticks,
+        header: &PacketHeader<'_>,
+        payload: &[u8],
+    ) -> Result<Outcome, AllocError> {
+        match self.small_header_for(header) {
+            Some(packed) => push_packed(packets, now, packed, payload),
+            None => self.push_with_rare_values(packets, now, header, payload),
+        }
+    }
+
+    /// Stores a packet with other values than small ones in its header extension.
+    #[cold]
+    #[inline(never)]
+    fn push_with_rare_values<B: Depacketizer>(
+        &self,
+        packets: &mut JitterBuffer<B>,
+        now: Ticks,
+        header: &PacketHeader<'_>,
+        payload: &[u8],
+    ) -> Result<Outcome, AllocError> {
+        let payload = packets.copy_of(payload)?;
+        match packets.push(now, self.header_for(header), payload) {
             Ok(outcome) => Ok(outcome),
             Err(_) => Err(AllocError),
         }
@@ -302,5 +331,20 @@ fn note_time(
         });
     } else if has_restarted {
         *seen = SeenTimes::none();
+    }
+}
+
+/// Stores a packet with this header and payload.
+#[inline(always)]
+fn push_packed<B: Depacketizer>(
+    packets: &mut JitterBuffer<B>,
+    now: Ticks,
+    header: PackedHeader,
+    payload: &[u8],
+) -> Result<Outcome, AllocError> {
+    let payload = packets.copy_of(payload)?;
+    match packets.push_packed(now, header, payload) {
+        Ok(outcome) => Ok(outcome),
+        Err(_) => Err(AllocError),
     }
 }
