@@ -67,21 +67,19 @@ impl StreamKinds {
         ensures { IfSome result (λ packed. packed ≡ header_for self.now (header_of header.now)) }
     {
         match self.ids.small_values(&header.extension) {
-            Some(values) => Some(
-                PackedHeader::plain(
-                    Pt::new_with_value(self.payload_type),
-                    header.sequence_number,
-                    header.timestamp,
-                    header.ssrc,
-                    header.marker,
-                )
-                .with_small_values(
-                    values.video_orientation,
-                    values.video_content_type,
-                    values.audio_level,
-                    values.voice_activity,
-                ),
-            ),
+            Some(values) => Some(PackedHeader::plain(
+                Pt::new_with_value(self.payload_type),
+                header.sequence_number,
+                header.timestamp,
+                header.ssrc,
+                header.marker,
+            )
+            .with_small_values(
+                values.video_orientation,
+                values.video_content_type,
+                values.audio_level,
+                values.voice_activity,
+            )),
             None => None,
         }
     }
