@@ -104,7 +104,7 @@ $(shared): $(out)/codec_payload.o packaging/codec_payload.map
 
 # The tests and three examples: each is a program over the archive. `strict=-Werror` is how the repository builds them.
 programs = $(addprefix $(tests)/,first loopback port \
-    checks datagrams session history forward waiting congestion rtcp packets values vectors frames oom forward_oom beyond descriptions)
+    checks datagrams lending session history forward waiting congestion rtcp packets values vectors frames oom forward_oom beyond descriptions)
 
 vpath %.c c/tests examples
 $(tests)/%: %.c $(wildcard c/tests/*.h) $(headers) $(LIBRARY)

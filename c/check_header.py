@@ -95,7 +95,7 @@ def c_params(name, rust):
     slice_of = re.fullmatch(r"\[(.*)\]", borrowed[2].strip())
     if slice_of:
         return [(f"{const}{c_type(slice_of[1])} *", name), ("size_t", f"{name}_len")]
-    return [(f"{const}{c_type(borrowed[2])} *", name)]
+    return [(f"{const}{c_type(borrowed[2])} *".replace("* *", "**"), name)]
 
 
 def rattle():

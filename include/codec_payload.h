@@ -46,8 +46,8 @@
  * unit waits for the next call of the same name. So a first call may pass a length of 0. (cpay_history_resend and the
  * calls of a forwarder spend nothing, and keep nothing waiting.)
  *
- * LENT BYTES. Two calls need no output buffer and copy nothing: cpay_session_poll and cpay_depacketizer_unit return a pointer to bytes
- * in the library's memory. Read them until the call that their comments name, and never write them.
+ * LENT BYTES. Three calls need no output buffer and copy nothing: cpay_session_poll, cpay_receiver_lend and cpay_depacketizer_unit
+ * return a pointer to bytes in the library's memory. Read them until the call that their comments name, and never write them.
  *
  * POINTERS. NULL is allowed with a length of 0; with another length the call returns CPAY_INVALID (false, if it returns a bool).
  * All other pointers must be valid, except the argument of *_free. An argument that a call writes must not overlap any other
@@ -951,8 +951,16 @@ CPAY_CHECKED cpay_status cpay_receiver_receive(cpay_receiver *receiver, uint64_t
 CPAY_CHECKED cpay_status cpay_receiver_pop(cpay_receiver *receiver, uint64_t now, cpay_unit *unit, uint8_t *bytes,
                                            size_t bytes_len);
 
-/** Reports the header extension values of the unit that cpay_receiver_pop returned last. They come from the last
- * packet of the unit. Capture time and layers allocation come from the first packet, if it has them. CPAY_NONE: no unit was
+/** Does the same as cpay_receiver_pop with room for any unit, and lends the bytes of the unit instead of copying them. `*at` is
+ * where they are, in the receiver's memory: `unit->bytes` bytes, of which read none if that is 0. They stay there until the next
+ * cpay_receiver_lend or cpay_receiver_pop with this receiver, which may move or free them, or until cpay_receiver_free. No other
+ * call changes them. Never write them. A unit that waits since cpay_receiver_pop returned CPAY_TOO_SMALL is lent first. With
+ * `fault` of *unit set, with CPAY_NONE and with CPAY_OUT_OF_MEMORY nothing is lent and *at is unchanged; bytes that it still points
+ * to are lent no longer. [m] */
+CPAY_CHECKED cpay_status cpay_receiver_lend(cpay_receiver *receiver, uint64_t now, cpay_unit *unit, const uint8_t **at);
+
+/** Reports the header extension values of the unit that cpay_receiver_pop or cpay_receiver_lend returned last. They come from the
+ * last packet of the unit. Capture time and layers allocation come from the first packet, if it has them. CPAY_NONE: no unit was
  * returned yet. Does not allocate. */
 CPAY_CHECKED cpay_status cpay_receiver_values(cpay_receiver *receiver, cpay_extension_values *values);
 

@@ -223,6 +223,10 @@ public:
     [[nodiscard]] cpay_status pop(std::uint64_t now, cpay_unit &unit, storage &to) {
         return to.fill(unit.bytes, [&](room it) { return pop(now, unit, it); });
     }
+    /** The unit without a copy: `at` points to its bytes until the next pop or lend. See cpay_receiver_lend. */
+    [[nodiscard]] cpay_status lend(std::uint64_t now, cpay_unit &unit, const std::uint8_t *&at) noexcept {
+        return cpay_receiver_lend(get(), now, &unit, &at);
+    }
     [[nodiscard]] cpay_status values(cpay_extension_values &values) noexcept { return cpay_receiver_values(get(), &values); }
     [[nodiscard]] cpay_status wants_keyframe(bool &wants) noexcept { return cpay_receiver_wants_keyframe(get(), &wants); }
     [[nodiscard]] cpay_status next_deadline(std::uint64_t &at) noexcept { return cpay_receiver_next_deadline(get(), &at); }

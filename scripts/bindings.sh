@@ -110,7 +110,7 @@ run_other_allocators() {
     for library in libjemalloc.so.2 libmimalloc.so.2.0; do
         path=$(find /usr/lib -name "$library" 2>/dev/null | head -n 1)
         [ -n "$path" ] || continue
-        for name in checks datagrams session history forward waiting congestion rtcp packets values; do
+        for name in checks datagrams lending session history forward waiting congestion rtcp packets values; do
             LD_PRELOAD=$path "$out/tests/$name" >/dev/null || fail "$name.c failed over $library"
         done
         allocators="$allocators, $library"

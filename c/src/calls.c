@@ -356,6 +356,11 @@ cpay_status cpay_receiver_pop(cpay_receiver *receiver, uint64_t now, cpay_unit *
     return proved_cpay_receiver_pop(&receiver->handle, now, unit, bytes ? bytes : (uint8_t *)nothing, bytes_len);
 }
 
+cpay_status proved_cpay_receiver_lend(cpay_handle *receiver, uint64_t now, cpay_unit *unit, const uint8_t **at);
+cpay_status cpay_receiver_lend(cpay_receiver *receiver, uint64_t now, cpay_unit *unit, const uint8_t **at) {
+    return proved_cpay_receiver_lend(&receiver->handle, now, unit, at);
+}
+
 cpay_status proved_cpay_receiver_values(cpay_handle *receiver, cpay_extension_values *values);
 cpay_status cpay_receiver_values(cpay_receiver *receiver, cpay_extension_values *values) {
     return proved_cpay_receiver_values(&receiver->handle, values);

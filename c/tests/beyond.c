@@ -203,8 +203,10 @@ static void receivers(size_t size) {
     (void)!TOLD(cpay_receiver_receive(&it, 0, room, bytes, &outcome));
     (void)!TOLD(cpay_receiver_receive(&it, 0, frame, size, &outcome));
     MADE(cpay_receiver_finish(&it));
-    while (TOLD(cpay_receiver_pop(&it, 9, &unit, room, sizeof room)) == CPAY_OK) {
-    }
+    const uint8_t *at = NULL;
+    cpay_status status = CPAY_OK;
+    for (int i = 0; status == CPAY_OK; i++)
+        status = i % 2 ? TOLD(cpay_receiver_lend(&it, 9, &unit, &at)) : TOLD(cpay_receiver_pop(&it, 9, &unit, room, sizeof room));
     cpay_receiver_free(&it);
 }
 

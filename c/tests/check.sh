@@ -3,7 +3,7 @@
 #
 #   c/tests/check.sh FOLDER COMMAND..    the programs are in FOLDER; COMMAND, if given, runs each of them
 #
-# The result of each call: checks, datagrams, session, history, forward, waiting, congestion, rtcp, values, packets. The
+# The result of each call: checks, datagrams, lending, session, history, forward, waiting, congestion, rtcp, values, packets. The
 # examples: first, in memory, and over UDP on loopback a stream, loopback, and a port with two senders, port. The stored script of
 # the program payload_vectors: vectors. Headers of frames, compared with other readers, and hostile frames: frames, frames.txt.
 # Allocations less frees after each type of use, and each allocation of a session refused in turn: oom, and of a forwarder:
@@ -28,7 +28,7 @@ says() {
     [ "$(sed -n "$2p" "$work/$1")" = "$3" ] || fail "$1.c printed something else: $(sed -n "$2p" "$work/$1")"
 }
 
-for name in first checks datagrams session history forward waiting congestion rtcp packets values loopback port oom forward_oom beyond; do
+for name in first checks datagrams lending session history forward waiting congestion rtcp packets values loopback port oom forward_oom beyond; do
     "$@" "$folder/$name" >"$work/$name" || {
         cat "$work/$name" >&2
         fail "$name.c failed"

@@ -190,10 +190,16 @@ static int datagrams(int *met) {
             /* A suspect packet for which memory ran out when it could be stored is discarded, and the outcome says so. */
             if (outcome == CPAY_RESTARTED_ALONE) whole = !refused, (*met)++;
         }
-        AGAIN(status, cpay_receiver_pop(&receiver, i, &unit, bytes, 1));
-        if (!whole && status == CPAY_NONE) continue;
-        if (status != CPAY_TOO_SMALL || unit.bytes != FRAME) return 6;
-        if (cpay_receiver_pop(&receiver, i, &unit, bytes, FRAME) || memcmp(bytes, frame, FRAME)) return 7;
+        /* units are popped, lent after a pop, and lent in turn */
+        const uint8_t *at = bytes;
+        if (i % 3 < 2) {
+            AGAIN(status, cpay_receiver_pop(&receiver, i, &unit, bytes, 1));
+            if (!whole && status == CPAY_NONE) continue;
+            if (status != CPAY_TOO_SMALL || unit.bytes != FRAME) return 6;
+        }
+        if (i % 3 == 0) status = cpay_receiver_pop(&receiver, i, &unit, bytes, FRAME);
+        else AGAIN(status, cpay_receiver_lend(&receiver, i, &unit, &at));
+        if (status || (at == bytes) != (i % 3 == 0) || memcmp(at, frame, FRAME)) return 7;
         if (cpay_receiver_values(&receiver, &values)) return 10;
         if (whole && (values.has_audio_level != (i % 2) || values.layers_allocation_len != 40 * (i % 2))) return 11;
     }
@@ -678,7 +684,7 @@ static int too_large(void) {
     TAKES(1200, "sender", cpay_sender_new(&it.sender, &sends));
     TAKES(200, "history", cpay_history_new(&it.history, &keeps));
     TAKES(400, "forwarder", cpay_forwarder_new(&it.forwarder, &forwards));
-    TAKES(1610, "receiver", cpay_receiver_new(&it.receiver, &receives, NULL, 0));
+    TAKES(1630, "receiver", cpay_receiver_new(&it.receiver, &receives, NULL, 0));
     TAKES(1900, "adaptive wait", cpay_adaptive_wait_new(&it.adaptive_wait, &waits));
     TAKES(350, "counter of freezes", cpay_freezes_new(&it.freezes, 1000));
     TAKES(250, "transport reporter", cpay_transport_reporter_new(&it.transport_reporter, &reports, NULL, 0));
@@ -728,6 +734,36 @@ static int pops_allocate(void) {
     return kept == before ? 0 : 12;
 }
 
+/* Units of a receiver that are lent, with one byte each, and with `more` once. 0 if the bytes are right, only the first two loans of
+ * small units allocate, and a receiver that is freed while it lends keeps nothing. */
+static int loans_allocate(size_t more) {
+    long before = kept;
+    static uint8_t datagram[12 + 60000] = {0x80, 111};
+    cpay_receiver_settings receives;
+    cpay_receiver_settings_init(&receives, CPAY_OPUS, 48000, 111, CPAY_FOR_LIVE);
+    cpay_receiver receiver = CPAY_INIT;
+    cpay_unit unit;
+    cpay_outcome outcome;
+    const uint8_t *at = NULL;
+    receives.start = 0;
+    receives.has_ssrc = true;
+    receives.ssrc = 7;
+    datagram[11] = 7;
+    if (cpay_receiver_new(&receiver, &receives, NULL, 0)) return 1;
+    for (uint8_t number = 1; number < 12; number++) {
+        size_t payload = number == 5 ? more : 1;
+        datagram[3] = datagram[7] = datagram[12] = datagram[11 + payload] = number;
+        if (cpay_receiver_receive(&receiver, 0, datagram, 12 + payload, &outcome)) return 2;
+        long popped = asked;
+        if (cpay_receiver_lend(&receiver, 0, &unit, &at) || unit.first % 65536 != number || unit.bytes != payload) return 3;
+        if (at[0] != number || at[payload - 1] != number || cpay_receiver_lend(&receiver, 0, &unit, &at) != CPAY_NONE) return 4;
+        if (number > 2 && (number < 5 || number > 7) && asked != popped) return 5;
+        if (cpay_receiver_receive(&receiver, 0, datagram, 12 + payload, &outcome) || outcome != CPAY_LATE) return 6;
+    }
+    cpay_receiver_free(&receiver);
+    return kept == before ? 0 : 7;
+}
+
 /* The number of uses that kept memory, or failed. */
 static int leaks(void) {
     static const uint32_t codecs[4] = {CPAY_VP8, CPAY_VP9, CPAY_AV1, CPAY_NULL};
@@ -740,6 +776,8 @@ static int leaks(void) {
     if ((ended = left_in_transport())) printf("memory left by a transport: ended %d\n", ended), bad++;
     if ((ended = resends_allocate())) printf("resends in steady state: ended %d\n", ended), bad++;
     if ((ended = pops_allocate())) printf("pops in steady state: ended %d\n", ended), bad++;
+    if ((ended = loans_allocate(1))) printf("loans in steady state: ended %d\n", ended), bad++;
+    if ((ended = loans_allocate(60000))) printf("loans after a large unit: ended %d\n", ended), bad++;
     return bad + too_large();
 }
 

@@ -76,6 +76,8 @@ void over_datagrams() {
     to = std::move(moved);
     std::array<std::uint64_t, 4> missing = {};
     CHECK(to.missing(missing, count) == CPAY_OK && count == 0);
+    const std::uint8_t *at = nullptr;
+    CHECK(to.lend(100, unit, at) == CPAY_NONE && at == nullptr && moved.lend(100, unit, at) == CPAY_EMPTY);
     cpay_receiver_counts_info counts = {};
     CHECK(to.counts(counts) == CPAY_OK && counts.units == 1);
     CHECK(to.finish() == CPAY_OK);

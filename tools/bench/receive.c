@@ -1,9 +1,10 @@
 /* Receives packets of Opus or VP8 while a number of packets is held: receive CALL KIND HELD. Each of ROUNDS packets arrives, and
  * then the units that are complete leave. KIND: `opus` (120 bytes, in order), `ranges` (the same, ranges of 32 in reverse order),
  * `vp8` (1,200 bytes, 17 packets a frame) or `ring` (packets of Opus through a ring that keeps no promises). tools/measure/receiving.py
- * runs it under callgrind, which counts only inside the function of CALL: `receive`, `pop`, `push`, `pop_buffer`, `put` or
- * `take`. With CALL `time` it prints the nanoseconds of processor time of a packet, as the least of several runs, with `time-buffer` those of a buffer,
- * and with `time-cold` those of HELD receivers in turn, 10,000 if HELD is 0. A unit leaves after each packet that ends a frame. */
+ * runs it under callgrind, which counts only inside the function of CALL: `receive`, `pop`, `lend`, `push`, `pop_buffer`, `put` or
+ * `take`. With CALL `time` it prints the nanoseconds of processor time of a packet, as the least of several runs, with `time-lend` those of
+ * a packet whose unit is lent, with `time-buffer` those of a buffer, and with `time-cold` those of HELD receivers in turn, 10,000 if HELD is
+ * 0. A unit leaves after each packet that ends a frame: by `lend` and `time-lend` it is lent, and otherwise copied. */
 #define _POSIX_C_SOURCE 199309L
 #include "codec_payload.h"
 
@@ -73,6 +74,12 @@ COUNTED pop(uint64_t now) {
     check(pop_of(&receiver, now));
 }
 
+COUNTED lend(uint64_t now) {
+    cpay_unit unit;
+    const uint8_t *at;
+    check(cpay_receiver_lend(&receiver, now, &unit, &at));
+}
+
 COUNTED push(uint64_t number) {
     push_packet(number);
 }
@@ -111,6 +118,12 @@ static void through_receiver(uint64_t place) {
     make_packet(number_at(place));
     receive(place);
     if (ends_frame(place)) pop(place);
+}
+
+static void through_loans(uint64_t place) {
+    make_packet(number_at(place));
+    receive(place);
+    if (ends_frame(place)) lend(place);
 }
 
 static void through_buffer(uint64_t place) {
@@ -164,7 +177,8 @@ int main(int count, char **words) {
     if (!strcmp(call, "time-cold")) return print_cold(codec, rate), 0;
     bool is_timed = !strncmp(call, "time", 4);
     bool bare = !strcmp(call, "push") || !strcmp(call, "pop_buffer") || !strcmp(call, "time-buffer");
-    void (*once)(uint64_t) = !strcmp(kind, "ring") ? through_ring : bare ? through_buffer : through_receiver;
+    bool lends = !strcmp(call, "lend") || !strcmp(call, "time-lend");
+    void (*once)(uint64_t) = !strcmp(kind, "ring") ? through_ring : bare ? through_buffer : lends ? through_loans : through_receiver;
     const cpay_spec spec = {.codec = codec, .rate = rate};
     check(cpay_buffer_new(&buffer, &spec, CPAY_NO_HOLD_BACK, 65536));
     cpay_receiver_settings file;

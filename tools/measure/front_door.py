@@ -5,11 +5,12 @@
   tools/measure/front_door.py --wanted    the same, with the figure that was aimed at beside each
   tools/measure/front_door.py --counts    the table of instructions alone
 
-In Rust `receive` and `pop_unit`, or `receive` and `poll_into`; in C `cpay_receiver_receive` and `cpay_receiver_pop`, or
-`cpay_session_receive` and `cpay_session_poll`, over the library as `make` builds it. What makes the datagrams does not count. The
-programs are session.rs, hostile.rs and call.rs of tools/speed/src/bin, receive.c and sessions.c of tools/bench, and ffmpeg.c of
-tools/measure/peers. Times are processor time, the least of some runs that take turns: compare within a table. Needs cargo, make, a C
-compiler and valgrind; for ffmpeg and the recorder the packages of tools/rtp_record/install.sh, else their figures are left out.
+In Rust `receive` and `pop_unit`, or `receive` and `poll_into`; in C `cpay_receiver_receive` and `cpay_receiver_pop` (beside ffmpeg,
+whose demuxer lends its packets, `cpay_receiver_lend`), or `cpay_session_receive` and `cpay_session_poll`, over the library as `make`
+builds it. What makes the datagrams does not count. The programs are session.rs, hostile.rs and call.rs of tools/speed/src/bin,
+receive.c and sessions.c of tools/bench, and ffmpeg.c of tools/measure/peers. Times are processor time, the least of some runs that
+take turns: compare within a table. Needs cargo, make, a C compiler and valgrind; for ffmpeg and the recorder the packages of
+tools/rtp_record/install.sh, else their figures are left out.
 """
 import os
 import resource
@@ -101,9 +102,9 @@ def times(receive, sessions, ffmpeg):
         def in_c(kind=kind, size=size, count=count):
             return printed(1, sessions, kind, size, count)
         yield f"ns {kind}", f"a session with requests: {name}", *least(9, rust, in_c)
-    calls = [lambda: receiving.time_of(receive, "time", "vp8", 64)] + ([lambda: printed(0, ffmpeg, "vp8", 12)] if ffmpeg else [])
+    calls = [lambda: receiving.time_of(receive, "time-lend", "vp8", 64)] + ([lambda: printed(0, ffmpeg, "vp8", 12)] if ffmpeg else [])
     in_c, *peer = least(5, *calls)
-    yield "ns vp8", "a receiver of VP8, 17 packets of 1,200 bytes a frame", None, in_c
+    yield "ns vp8", "a receiver of VP8, 17 packets of 1,200 bytes a frame, lent", None, in_c
     if peer:
         yield "ns ffmpeg", "the same packets in ffmpeg's demuxer", None, peer[0]
 

@@ -121,10 +121,22 @@ uint32_t twin_receive(void *receiver, uint64_t now, const uint8_t *datagram, siz
     return cpay_receiver_receive(receiver, now, datagram, datagram_len, outcome);
 }
 
-/* The next unit: first and last number, RTP time, whether it is contiguous, its size, and the fault of a refused frame. */
+/* What cpay_receiver_pop does, by the call that lends. */
+static cpay_status pop_lent(cpay_receiver *receiver, uint64_t now, cpay_unit *unit, uint8_t *bytes, size_t bytes_len) {
+    const uint8_t *at = NULL;
+    cpay_status status = cpay_receiver_lend(receiver, now, unit, &at);
+    if (status || unit->fault) return status;
+    if (bytes_len < unit->bytes) return CPAY_TOO_SMALL;
+    if (unit->bytes) memcpy(bytes, at, unit->bytes);
+    return CPAY_OK;
+}
+
+/* The next unit, by each of the two ways in turn: first and last number, RTP time, whether it is contiguous, its size, and the fault of
+ * a refused frame. */
 uint32_t twin_pop(void *receiver, uint64_t now, uint8_t *bytes, size_t bytes_len, uint64_t unit[6]) {
+    static unsigned turn;
     cpay_unit it = { 0 };
-    cpay_status status = cpay_receiver_pop(receiver, now, &it, bytes, bytes_len);
+    cpay_status status = turn++ % 2 ? pop_lent(receiver, now, &it, bytes, bytes_len) : cpay_receiver_pop(receiver, now, &it, bytes, bytes_len);
     unit[0] = it.first;
     unit[1] = it.last;
     unit[2] = it.rtp_time;

@@ -260,7 +260,7 @@ pub extern "C" fn cpay_receiver_counts(
     handle: &mut Handle,
     counts: &mut ReceiverCountsInfo,
 ) -> u32
-    ensures tells { OnStreamReceiver handle.old.place.value (λ r s. (result ≡ 0) × (s ≡ r) × TellsCounts r counts.new) handle.new.place.value }
+    ensures tells { OnStreamReceiver handle.old.place.value (λ r s. (result ≡ 0) × (s ≡ r) × TellsCounts r.receiver (is_some r.waiting) counts.new) handle.new.place.value }
     ensures refused { Refuses is_stream_receiver handle.old.place.value result handle.new.place.value }
     ensures unchanged { result ≢ 0 → counts.new ≡ counts.old }
 {

@@ -2,8 +2,9 @@
 
 ghost use Rattle.std.specs.Prelude.{◌≡◌, ◌≢◌};
 ghost use Rattle.codec_payload_handle.specs.Kinds.{OnStreamReceiver, Refuses, is_stream_receiver};
-ghost use Rattle.codec_payload_c_receiving.specs.StreamReceivers.{PopsUnit, TellsTaken};
+ghost use Rattle.codec_payload_c_receiving.specs.StreamReceivers.{LendsUnit, PopsUnit, TellsTaken};
 
+use codec_payload_c_receiving::receiver_lending::lend;
 use codec_payload_c_receiving::receiver_units::pop;
 use codec_payload_handle::extension_values::ExtensionValues;
 use codec_payload_handle::handle::Handle;
@@ -32,6 +33,31 @@ pub extern "C" fn cpay_receiver_pop(
     };
     let answer = match &mut *object {
         Object::StreamReceiver(stream) => pop(stream, alloc, now, unit, bytes),
+        _ => status::OTHER_KIND,
+    };
+    handle.put(object);
+    answer
+}
+
+/// Lends the next unit, or describes the next refused frame or unit that is too large, if one is due at that time. The bytes of
+/// the unit are in the receiver's memory, until the next call with the handle.
+#[unsafe(no_mangle)]
+pub extern "C" fn cpay_receiver_lend(
+    alloc: Global,
+    handle: &mut Handle,
+    now: u64,
+    unit: &mut Unit,
+    at: &mut *const u8,
+) -> u32
+    ensures lends { OnStreamReceiver handle.old.place.value (λ r s. LendsUnit r now result unit.old unit.new at.old at.new s) handle.new.place.value }
+    ensures refused { Refuses is_stream_receiver handle.old.place.value result handle.new.place.value }
+    ensures unchanged { result ≢ 0 → (unit.new ≡ unit.old) × (at.new ≡ at.old) }
+{
+    let Some(mut object) = handle.take(alloc) else {
+        return status::EMPTY;
+    };
+    let answer = match &mut *object {
+        Object::StreamReceiver(stream) => lend(stream, alloc, now, unit, at),
         _ => status::OTHER_KIND,
     };
     handle.put(object);

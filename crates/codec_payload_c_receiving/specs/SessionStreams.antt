@@ -15,7 +15,7 @@ use Rattle.codec_payload_session_stream.specs.declared.stream.StreamState.{Strea
 use Rattle.codec_payload_receiver.specs.Sessions.{Session as Receiver}
 use Rattle.codec_payload_c_receiving.specs.Sessions.{ending_number}
 use Rattle.codec_payload_handle.specs.Numbers.{given_if}
-use Rattle.codec_payload_c_receiving.specs.StreamReceivers.{TellsCounts, without_units}
+use Rattle.codec_payload_c_receiving.specs.StreamReceivers.{TellsCounts}
 use Rattle.codec_payload_c_receiving.specs.declared.receiver.ReceiverCountsInfo.{ReceiverCountsInfo}
 use Rattle.codec_payload_c_receiving.specs.declared.session_streams.SessionCountsInfo.{SessionCountsInfo}
 use Rattle.codec_payload_c_receiving.specs.declared.session_streams.SessionStream.{SessionStream}
@@ -70,7 +70,7 @@ pub record TellsStream (s : StreamState) (i : SessionStream) : Type 0 where
   pub round_trip : i.round_trip ≡ unwrap_or (round_trip_of s.feedback) 0
   pub numbers_requested : i.numbers_requested ≡ (request_counts_of s.feedback).numbers
   pub keyframes_requested : i.keyframes_requested ≡ (request_counts_of s.feedback).keyframes
-  pub counts : TellsCounts (without_units s.receiver) i.counts
+  pub counts : TellsCounts s.receiver false i.counts
 
 -- the same from what a session says of a stream
 pub record DescribesStream (info : StreamInfo) (counts : ReceiverCountsInfo) (i : SessionStream) : Type 0 where

@@ -1,5 +1,6 @@
 -- The calls on a receiver of datagrams.
-use Rattle.std.specs.Prelude.{◌≡◌, ◌≢◌, ◌⊎◌, ◌<◌, ◌≤◌, ℕ, ◌+◌, ◌-◌, ◌%◌, ◌^◌, ◌&&◌, ◌||◌, ◌==◌, not, nat_le, nat_lt, if◌then◌else◌, Bool, true, false, Option, Some, None, Result, Ok, Err, List, is_some, length, drop, ◌++◌}
+use denote.RawPtr.{Ptr}
+use Rattle.std.specs.Prelude.{◌≡◌, ◌≢◌, ◌⊎◌, ◌<◌, ◌≤◌, ℕ, ◌+◌, ◌-◌, ◌%◌, ◌^◌, ◌&&◌, ◌||◌, ◌==◌, not, nat_le, nat_lt, if◌then◌else◌, Bool, true, false, Option, Some, None, Result, Ok, Err, List, [], is_some, length, drop, ◌++◌}
 use Rattle.std.specs.Option.{unwrap_or}
 use Rattle.std.specs.declared.alloc.AllocError.{AllocError}
 use Rattle.codec_payload_core.specs.Depacketizers.{DepacketizerState}
@@ -21,11 +22,14 @@ use Rattle.codec_payload_datagrams.specs.declared.kinds.Retransmission.{Retransm
 use Rattle.codec_payload_receiver.specs.declared.receiver.Settings.{Settings}
 use Rattle.codec_payload_numbers.specs.declared.statistics.ReceptionReport.{ReceptionReport}
 use Rattle.codec_payload_base.specs.declared.wire.Ticks.{Ticks}
+use Rattle.codec_payload_core.specs.Faults.{fault_number}
 use Rattle.codec_payload_core.specs.Release.{Release}
 use Rattle.codec_payload_core.specs.declared.buffer.RtpMeta.{RtpMeta}
+use Rattle.codec_payload_core.specs.declared.error.PacketError.{PacketError}
+use Rattle.codec_payload_core.specs.declared.error.PacketError.TheVariants as faults
 use Rattle.codec_payload_handle.specs.Bytes.{filled}
-use Rattle.codec_payload_handle.specs.Popping.{Answer, AnswersPopOrRefusal}
-use Rattle.codec_payload_handle.specs.Units.{TellsUnit, TellsValues}
+use Rattle.codec_payload_handle.specs.Popping.{Answer, AnswersPopOrRefusal, Comes}
+use Rattle.codec_payload_handle.specs.Units.{TellsUnit, TellsValues, refused_unit, too_large_unit}
 use Rattle.codec_payload_handle.specs.declared.extension_values.ExtensionValues.{ExtensionValues as CValues}
 use Rattle.codec_payload_handle.specs.declared.object.Object.{Object}
 use Rattle.codec_payload_handle.specs.declared.object.Object.TheVariants as objects
@@ -38,6 +42,7 @@ use Rattle.codec_payload_c_receiving.specs.declared.receiver.WaitLimits.{WaitLim
 use Rattle.codec_payload_c_receiving.specs.declared.receiver.ReceiverCountsInfo.{ReceiverCountsInfo}
 use Rattle.codec_payload_c_receiving.specs.declared.receiver.ReceiverSettings.{ReceiverSettings}
 use Rattle.codec_payload_c_receiving.specs.declared.receiver.ReportInfo.{ReportInfo}
+use Rattle.std_alloc.specs.Vec.{vec_ptr}
 
 -- RED, if it is used: its payload type differs from the stream's, and the step is in range
 abbrev pub red_in_range : ReceiverSettings → Bool
@@ -105,6 +110,7 @@ pub record IsNewStream (s : ReceiverSettings) (no_media : List ℕ) (depacketize
   pub depacketizer_is : depacketizer ≡ Some by
   pub made : session_by settings by ≡ Ok r.receiver
   pub waiting : r.waiting ≡ None
+  pub lent : r.lent.items ≡ []
   pub taken : r.taken ≡ None
 
 abbrev pub IsStreamReceiverOf : ReceiverSettings → List ℕ → Option DepacketizerState → Object → Type 0
@@ -142,6 +148,7 @@ pub record Takes (r : StreamReceiver) (now : ℕ) (bytes : List ℕ) (status bef
   pub receives : ReceivesBytes at bytes r.receiver answer s.receiver
   pub tells : Tells answer status before after
   pub waiting : s.waiting ≡ r.waiting
+  pub lent : s.lent ≡ r.lent
   pub taken : s.taken ≡ r.taken
 
 -- a pop at that time, and whether its unit has more bytes than the settings allow
@@ -184,6 +191,55 @@ PopsUnit r now status unit_before unit before bytes s =
     (record { waited = r.waiting; waits = s.waiting; unit_before = unit_before; unit = unit; before = before; bytes = bytes })
     × (status ≢ 0 → s.taken ≡ r.taken) × (status ≡ 0 → unit.fault ≢ 0 → s.taken ≡ r.taken)
 
+-- A unit that waited is described and lent: `at` is where its bytes are, and it is the latest popped unit, whose packets are kept
+pub record LendsWaiting (u : Release) (unit : CUnit) (at : Ptr) (r s : StreamReceiver) : Type 0 where
+  pub tells : TellsJudged r.receiver u unit
+  pub receiver : s.receiver ≡ r.receiver
+  pub place : at ≡ vec_ptr s.lent
+  pub bytes : s.lent.items ≡ u.bytes
+  pub none_waits : s.waiting ≡ None
+  pub taken : s.taken ≡ Some u.metas
+
+-- A unit waited, or a pop gives it now. It is described and lent: `at` is where its bytes are, in the receiver's memory, and it is the latest popped unit, whose packets are kept
+pub record LendsRelease (r : StreamReceiver) (now : ℕ) (unit : CUnit) (at : Ptr) (s : StreamReceiver) : Type 0 where
+  pub release : Release
+  pub comes : Comes (s.receiver ≡ r.receiver) (λ answer. PopsAt false now r.receiver answer s.receiver) r.waiting release
+  pub tells : TellsJudged s.receiver release unit
+  pub place : at ≡ vec_ptr s.lent
+  pub bytes : s.lent.items ≡ release.bytes
+  pub none_waits : s.waiting ≡ None
+  pub taken : s.taken ≡ Some release.metas
+
+-- nothing is lent: the place that the caller has is unchanged, and the packets of the latest popped unit stay
+pub record LendsNothing (at_before at : Ptr) (r s : StreamReceiver) : Type 0 where
+  pub place : at ≡ at_before
+  pub none_waited : r.waiting ≡ None
+  pub none_waits : s.waiting ≡ None
+  pub taken : s.taken ≡ r.taken
+
+-- a pop refused a frame: its fault, which is not out of memory, is the description
+pub record LendsRefusal (r : StreamReceiver) (now : ℕ) (unit : CUnit) (s : StreamReceiver) : Type 0 where
+  pub fault : PacketError
+  pub not_memory : fault_number fault ≢ 17
+  pub tells : unit ≡ refused_unit fault
+  pub pops : PopsAt false now r.receiver (Some (Err fault)) s.receiver
+
+-- a pop gave a unit that is too large: that is the description
+pub record LendsTooLarge (r : StreamReceiver) (now : ℕ) (unit : CUnit) (s : StreamReceiver) : Type 0 where
+  pub release : Release
+  pub pops : PopsAt true now r.receiver (Some (Ok release)) s.receiver
+  pub tells : unit ≡ too_large_unit
+
+-- the next unit of a receiver is lent, or the next refused frame or unit that is too large is described, by the status and the fault of the description
+pub record LendsUnit (r : StreamReceiver) (now status : ℕ) (unit_before unit : CUnit) (at_before at : Ptr) (s : StreamReceiver) : Type 0 where
+  pub ok : status ≡ 0 → unit.fault ≡ 0 → LendsRelease r now unit at s
+  pub refused : status ≡ 0 → unit.fault ≢ 0 → unit.fault ≢ 76 → LendsRefusal r now unit s
+  pub too_large : status ≡ 0 → unit.fault ≡ 76 → LendsTooLarge r now unit s
+  pub none : status ≡ 32 → PopsAt false now r.receiver None s.receiver
+  pub no_memory : status ≢ 0 → status ≢ 32 → (status ≡ 17) × PopsAt false now r.receiver (Some (Err faults.OutOfMemory)) s.receiver
+  pub without_unit : status ≡ 0 → unit.fault ≢ 0 → LendsNothing at_before at r s
+  pub without_event : status ≢ 0 → (unit ≡ unit_before) × LendsNothing at_before at r s
+
 -- the values of the latest popped unit, which has these packets
 abbrev pub TellsTaken : Option (List RtpMeta) → ℕ → (before after : CValues) → Type 0
 TellsTaken None status before after = (status ≡ 32) × (after ≡ before)
@@ -198,10 +254,6 @@ pub record EndsWith (status : ℕ) (s t : Session) : Type 0 where
   pub done : Result Unit AllocError
   pub finishes : Finishes s done t
   pub status_is : status ≡ status_of_end done
-
--- a receiver without a unit that waits or was popped
-abbrev pub without_units : Session → StreamReceiver
-without_units s = record { receiver = s; waiting = None; taken = None }
 
 -- these counters, of a receiver with this SSRC that holds so many packets, and for which no unit waits
 abbrev pub counts_from : Counters → (held : ℕ) → (ssrc : Option ℕ) → ReceiverCountsInfo
@@ -233,32 +285,32 @@ counts_from k held ssrc = record {
   waiting = false;
 }
 
--- the counters of a receiver
-pub record TellsCounts (r : StreamReceiver) (c : ReceiverCountsInfo) : Type 0 where
-  pub received : c.received ≡ (r.receiver.arrived.received + length r.receiver.choice.candidates) % 2 ^ 64
-  pub rtcp : c.rtcp ≡ r.receiver.arrived.rtcp
-  pub malformed : c.malformed ≡ r.receiver.arrived.malformed
-  pub other_streams : c.other_streams ≡ r.receiver.arrived.other_streams
-  pub undecided : c.undecided ≡ length r.receiver.choice.candidates
-  pub no_media : c.no_media ≡ r.receiver.packets.counters.no_media
-  pub duplicates : c.duplicates ≡ r.receiver.packets.counters.duplicates
-  pub late : c.late ≡ r.receiver.packets.counters.late
-  pub suspect : c.suspect ≡ r.receiver.packets.counters.suspect
-  pub evicted : c.evicted ≡ r.receiver.packets.counters.evicted
-  pub released : c.released ≡ (counters_with r.receiver.bound r.receiver.packets.counters).released
-  pub left : c.left ≡ (counters_with r.receiver.bound r.receiver.packets.counters).left
-  pub incomplete : c.incomplete ≡ r.receiver.packets.counters.incomplete
-  pub skipped : c.skipped ≡ r.receiver.packets.counters.skipped
-  pub refused : c.refused ≡ (counters_with r.receiver.bound r.receiver.packets.counters).refused
-  pub restarts : c.restarts ≡ r.receiver.packets.counters.restarts
-  pub retransmitted : c.retransmitted ≡ r.receiver.packets.counters.retransmitted
-  pub recovered : c.recovered ≡ r.receiver.packets.counters.recovered
-  pub units : c.units ≡ (counters_with r.receiver.bound r.receiver.packets.counters).units
-  pub too_large : c.too_large ≡ r.receiver.bound.units
-  pub undecodable : c.undecodable ≡ r.receiver.gates.undecodable
-  pub held : c.held ≡ length r.receiver.packets.buffer.held
-  pub waiting : c.waiting ≡ is_some r.waiting
-  pub ssrc : r.receiver.ssrc ≡ given_if c.has_ssrc c.ssrc
+-- the counters of a receiver, and whether a unit waits
+pub record TellsCounts (s : Session) (waits : Bool) (c : ReceiverCountsInfo) : Type 0 where
+  pub received : c.received ≡ (s.arrived.received + length s.choice.candidates) % 2 ^ 64
+  pub rtcp : c.rtcp ≡ s.arrived.rtcp
+  pub malformed : c.malformed ≡ s.arrived.malformed
+  pub other_streams : c.other_streams ≡ s.arrived.other_streams
+  pub undecided : c.undecided ≡ length s.choice.candidates
+  pub no_media : c.no_media ≡ s.packets.counters.no_media
+  pub duplicates : c.duplicates ≡ s.packets.counters.duplicates
+  pub late : c.late ≡ s.packets.counters.late
+  pub suspect : c.suspect ≡ s.packets.counters.suspect
+  pub evicted : c.evicted ≡ s.packets.counters.evicted
+  pub released : c.released ≡ (counters_with s.bound s.packets.counters).released
+  pub left : c.left ≡ (counters_with s.bound s.packets.counters).left
+  pub incomplete : c.incomplete ≡ s.packets.counters.incomplete
+  pub skipped : c.skipped ≡ s.packets.counters.skipped
+  pub refused : c.refused ≡ (counters_with s.bound s.packets.counters).refused
+  pub restarts : c.restarts ≡ s.packets.counters.restarts
+  pub retransmitted : c.retransmitted ≡ s.packets.counters.retransmitted
+  pub recovered : c.recovered ≡ s.packets.counters.recovered
+  pub units : c.units ≡ (counters_with s.bound s.packets.counters).units
+  pub too_large : c.too_large ≡ s.bound.units
+  pub undecodable : c.undecodable ≡ s.gates.undecodable
+  pub held : c.held ≡ length s.packets.buffer.held
+  pub waiting : c.waiting ≡ waits
+  pub ssrc : s.ssrc ≡ given_if c.has_ssrc c.ssrc
 
 -- the fields of a receiver report
 abbrev pub TellsReport : Option ReceptionReport → ℕ → (before after : ReportInfo) → Type 0

@@ -4,6 +4,7 @@
 pub mod adaptive_wait;
 pub mod beginnings;
 pub mod receiver;
+pub mod receiver_lending;
 pub mod receiver_units;
 pub mod session;
 pub mod session_faults;

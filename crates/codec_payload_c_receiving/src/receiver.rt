@@ -5,7 +5,7 @@ ghost use Rattle.codec_payload_core.specs.Depacketizers.{depacketizer_state_of};
 ghost use Rattle.codec_payload_jitter.specs.Missing.{missing_numbers};
 ghost use Rattle.codec_payload_jitter.specs.Receiving.{deadline_of};
 ghost use Rattle.codec_payload_handle.specs.Refusals.{RefusesSettings};
-ghost use Rattle.codec_payload_c_receiving.specs.StreamReceivers.{AreSettings, counts_from, EndsWith, IsNewStream, Takes, Tells, TellsCounts, without_units, bound_given, from_keyframe_numbered, is_in_range, outcome_number, red_rtx_in_range, red_set, rtx_set, wait_limits_given};
+ghost use Rattle.codec_payload_c_receiving.specs.StreamReceivers.{AreSettings, counts_from, EndsWith, IsNewStream, Takes, Tells, TellsCounts, bound_given, from_keyframe_numbered, is_in_range, outcome_number, red_rtx_in_range, red_set, rtx_set, wait_limits_given};
 ghost use Rattle.codec_payload_handle.specs.Numbers.{at_once_if};
 
 use codec_payload_core::codec::CodecDepacketizer;
@@ -308,7 +308,7 @@ pub(crate) fn report_answer(answer: Result<Outcome, ReceiveError>, outcome: &mut
 
 /// Returns the counters of a receiver, and whether a unit waits.
 pub fn counts_of(stream: &StreamReceiver) -> ReceiverCountsInfo
-    ensures { TellsCounts stream.now result }
+    ensures { TellsCounts stream.now.receiver (is_some stream.now.waiting) result }
 {
     ReceiverCountsInfo {
         waiting: stream.waiting.is_some(),
@@ -318,7 +318,7 @@ pub fn counts_of(stream: &StreamReceiver) -> ReceiverCountsInfo
 
 /// Returns the counters of a receiver for which no unit waits.
 pub(crate) fn counts_by(receiver: &Receiver) -> ReceiverCountsInfo
-    ensures { TellsCounts (without_units receiver.now) result }
+    ensures { TellsCounts receiver.now Bool.false result }
 {
     counts_from(&receiver.counters(), receiver.held(), receiver.ssrc())
 }
@@ -403,10 +403,12 @@ pub fn stream_by(
         return Err(status::OUT_OF_MEMORY);
     }
     let waiting = UnitSlot::new(alloc);
+    let lent = Vec::new(alloc);
     let taken = TakenPackets::new(alloc);
     Ok(StreamReceiver {
         receiver,
         waiting,
+        lent,
         taken,
     })
 }

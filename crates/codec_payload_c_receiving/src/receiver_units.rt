@@ -13,7 +13,7 @@ use std::alloc::Global;
 
 /// Adds what a receiver knows of the unit that it released to the description: its extended RTP time, and whether it is
 /// decodable.
-fn judge(unit: &mut Unit, receiver: &Receiver)
+pub(crate) fn judge(unit: &mut Unit, receiver: &Receiver)
     ensures { unit.new ≡ judged_by receiver.now unit.old }
 {
     if let Some(time) = receiver.unit_time() {
@@ -39,7 +39,7 @@ fn hand_over(stream: &mut StreamReceiver, alloc: Global, unit: &mut Unit, bytes:
 }
 
 /// Writes the next unit to the output buffer: the unit that waits for a larger output buffer, or the next one from the
-/// receiver. A refused frame is described by its fault, and so is a unit that is too large.
+/// receiver. A refused frame is described by its fault, and so is a unit that is too large. What was lent is lent no longer.
 #[tactic(auto, using(crate::proofs::RefusalLemmas::some_number, crate::proofs::RefusalLemmas::other_number, crate::proofs::RefusalLemmas::no_size))]
 pub fn pop(
     stream: &mut StreamReceiver,
@@ -50,6 +50,7 @@ pub fn pop(
 ) -> u32
     ensures { PopsUnit stream.old now result unit.old unit.new bytes.old bytes.new stream.new }
 {
+    stream.end_loan(alloc);
     if stream.waiting.is_some() {
         return hand_over(stream, alloc, unit, bytes);
     }

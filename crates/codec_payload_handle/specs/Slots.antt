@@ -39,6 +39,17 @@ abbrev pub IsWritten : Option Release → Bool → CUnit → (before bytes : Lis
 IsWritten None has_room unit before bytes = Unit {0}
 IsWritten (Some u) has_room unit before bytes = IsWrittenTo u has_room unit before bytes
 
+-- the unit of a slot is described, its bytes are lent, and its packets are those of the latest unit: the slot has it no longer
+pub record IsLentAs (u : Release) (unit : CUnit) (lent : List ℕ) (taken : Option (List RtpMeta)) (slot : Option Release) : Type 0 where
+  pub tells : TellsUnit u unit
+  pub lends : lent ≡ u.bytes
+  pub takes : taken ≡ Some u.metas
+  pub gone : slot ≡ None
+
+abbrev pub IsLent : Option Release → CUnit → (lent : List ℕ) → (taken : Option (List RtpMeta)) → (slot : Option Release) → Type 0
+IsLent None unit lent taken slot = Unit {0}
+IsLent (Some u) unit lent taken slot = IsLentAs u unit lent taken slot
+
 -- the packets of the latest unit, after a poll with this event
 abbrev pub latest_packets : Option Event → Option (List RtpMeta) → Option (List RtpMeta)
 latest_packets None taken = taken

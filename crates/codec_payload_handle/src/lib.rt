@@ -15,4 +15,5 @@ pub mod rtp_faults;
 pub mod settings;
 pub mod slot;
 pub mod status;
+pub mod stream;
 pub mod unit;

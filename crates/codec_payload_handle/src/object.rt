@@ -54,11 +54,14 @@ pub struct StreamSender {
     pub rate: Frequency,
 }
 
-/// A receiver of datagrams, the unit that waits for a larger output buffer, and the packets of the latest popped unit.
+/// A receiver of datagrams, the unit that waits for a larger output buffer, the packets of the latest popped unit, and its bytes
+/// if they are lent.
 #[derive(Drop)]
 pub struct StreamReceiver {
     pub receiver: DatagramReceiver,
     pub waiting: UnitSlot,
+    /// The bytes that are lent, of the latest unit that was lent. Only the calls for the next unit change them.
+    pub lent: Vec<u8>,
     pub taken: TakenPackets,
 }
 

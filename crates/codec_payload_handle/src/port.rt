@@ -5,12 +5,11 @@ ghost use Rattle.codec_payload_session.specs.Polls.{Polls};
 ghost use Rattle.codec_payload_session_stream.specs.Units.{HasUnit, event_to};
 
 use crate::object::PortSession;
-use crate::slot::{MOST_BYTES, MOST_PACKETS, TakenPackets};
+use crate::slot::{MOST_BYTES, MOST_PACKETS, TakenPackets, swap_bytes};
 use codec_payload_core::buffer::PoppedUnit;
 use codec_payload_core::wire::Ticks;
 use codec_payload_session::session::{Event, Session};
 use std::alloc::Global;
-use std::mem;
 
 impl PortSession {
     /// Returns a session that lends no bytes, and of which no unit was taken. Allocates nothing.
@@ -70,13 +69,4 @@ impl PortSession {
     {
         self.lent.clear();
     }
-}
-
-/// Swaps the bytes of a unit with these.
-#[inline(always)]
-fn swap_bytes(bytes: &mut Vec<u8>, unit: &mut PoppedUnit)
-    ensures bytes { bytes.new.items ≡ unit.old.bytes }
-    ensures rest { unit.new ≡ record unit.old { bytes = bytes.old.items } }
-{
-    mem::swap(bytes, &mut unit.bytes);
 }

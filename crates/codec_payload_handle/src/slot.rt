@@ -3,7 +3,7 @@
 ghost use Rattle.std.specs.Prelude.{◌≡◌, ◌<◌, IsSome, None, Some, is_some, length, option_map};
 ghost use Rattle.codec_payload_core.specs.Steps.{Pops};
 ghost use Rattle.codec_payload_receiver.specs.Pops.{NamesFault, PopsGated, is_large};
-ghost use Rattle.codec_payload_handle.specs.Slots.{IsWritten, PopsFrom, PopsTo, TellsValuesOf};
+ghost use Rattle.codec_payload_handle.specs.Slots.{IsLent, IsWritten, PopsFrom, PopsTo, TellsValuesOf};
 
 use crate::bytes::fill;
 use crate::extension_values::{ExtensionValues, values_of};
@@ -15,6 +15,7 @@ use codec_payload_receiver::pops::Popped;
 use codec_payload_receiver::receiver::Receiver;
 use std::alloc::{AllocError, Global};
 use std::marker::Model;
+use std::mem;
 
 /// The largest number of bytes that an empty slot keeps for the next unit.
 pub(crate) const MOST_BYTES: usize = 8_192;
@@ -150,6 +151,33 @@ impl UnitSlot {
         self.unit.move_packets(&mut taken.packets);
         self.clear(alloc);
     }
+
+    /// Describes the unit, and moves its bytes to `lent` and its packets to `taken`, in place of those that were there. The slot
+    /// then has no unit, and keeps the memory that `lent` had for the next one.
+    #[inline(always)]
+    pub fn lend_to(
+        &mut self,
+        alloc: Global,
+        unit: &mut Unit,
+        lent: &mut Vec<u8>,
+        taken: &mut TakenPackets,
+    )
+        requires { IsSome self.old }
+        ensures { IsLent self.old unit.new lent.new.items taken.new self.new }
+    {
+        describe_popped(unit, &self.unit);
+        swap_bytes(lent, &mut self.unit);
+        self.move_to(taken, alloc);
+    }
+}
+
+/// Swaps the bytes of a unit with these.
+#[inline(always)]
+pub(crate) fn swap_bytes(bytes: &mut Vec<u8>, unit: &mut PoppedUnit)
+    ensures bytes { bytes.new.items ≡ unit.old.bytes }
+    ensures rest { unit.new ≡ record unit.old { bytes = bytes.old.items } }
+{
+    mem::swap(bytes, &mut unit.bytes);
 }
 
 /// The packets of the unit that the caller got last, or none.

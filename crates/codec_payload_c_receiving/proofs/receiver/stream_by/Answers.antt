@@ -13,6 +13,7 @@ returns-clause-ok c = (
     depacketizer_is = refl;
     made = sym c.new.ensures ∙ c.in-Ok.is;
     waiting = c.new-waiting.ensures;
+    lent = c.new-lent.ensures.items;
     taken = c.new-taken.ensures;
   },
   sym (ok_settings c.args.settings.now _ c.in-Some.settings _ c.in-Some.ensures.settings c.in-Some.ensures.made) ∙ ap is_ok (sym c.new.ensures ∙ c.in-Ok.is),
