@@ -684,7 +684,7 @@ static int too_large(void) {
     TAKES(1200, "sender", cpay_sender_new(&it.sender, &sends));
     TAKES(200, "history", cpay_history_new(&it.history, &keeps));
     TAKES(400, "forwarder", cpay_forwarder_new(&it.forwarder, &forwards));
-    TAKES(1630, "receiver", cpay_receiver_new(&it.receiver, &receives, NULL, 0));
+    TAKES(1640, "receiver", cpay_receiver_new(&it.receiver, &receives, NULL, 0));
     TAKES(1900, "adaptive wait", cpay_adaptive_wait_new(&it.adaptive_wait, &waits));
     TAKES(350, "counter of freezes", cpay_freezes_new(&it.freezes, 1000));
     TAKES(250, "transport reporter", cpay_transport_reporter_new(&it.transport_reporter, &reports, NULL, 0));
