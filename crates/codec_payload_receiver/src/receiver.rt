@@ -374,9 +374,25 @@ impl<B: Depacketizer> Receiver<B> {
         self.receive_read(now, datagram)
     }
 
-    /// Does the same, within its caller.
+    /// Does the same, within its caller. Most often the stream is chosen, and no verdict is needed.
     #[inline(always)]
     fn receive_read(
+        &mut self,
+        now: Ticks,
+        datagram: &ParsedDatagram<'_>,
+    ) -> Result<Outcome, ReceiveError>
+        ensures received { ReceivesBytes now datagram.now self.old result self.new }
+        ensures own { is_built_in_depacketizer self.old.packets.buffer.depacketizer ≡ false → OwnStores B.is_head B.is_tail self.old.packets.buffer self.new.packets.buffer }
+    {
+        if !self.is_open(now) {
+            return self.hear(now, datagram);
+        }
+        self.receive_open(now, datagram)
+    }
+
+    /// Does the same while another stream can be chosen.
+    #[inline(never)]
+    fn receive_open(
         &mut self,
         now: Ticks,
         datagram: &ParsedDatagram<'_>,
@@ -420,6 +436,7 @@ impl<B: Depacketizer> Receiver<B> {
     }
 
     /// Returns whether another stream can be chosen.
+    #[inline(always)]
     fn is_open(&self, now: Ticks) -> bool
         ensures { result ≡ is_open self.now now.0 }
     {
