@@ -357,9 +357,22 @@ impl<B: Depacketizer> Receiver<B> {
         self.receive_read(now, datagram)
     }
 
-    /// Does the same, within its caller.
+    /// Does the same, within its caller. Most often the stream is chosen, and no verdict is needed.
     #[inline(always)]
     fn receive_read(
+        &mut self,
+        now: Ticks,
+        datagram: &ParsedDatagram<'_>,
+    ) -> Result<Outcome, ReceiveError> {
+        if !self.is_open(now) {
+            return self.hear(now, datagram);
+        }
+        self.receive_open(now, datagram)
+    }
+
+    /// Does the same while another stream can be chosen.
+    #[inline(never)]
+    fn receive_open(
         &mut self,
         now: Ticks,
         datagram: &ParsedDatagram<'_>,
@@ -394,6 +407,7 @@ impl<B: Depacketizer> Receiver<B> {
     }
 
     /// Returns whether another stream can be chosen.
+    #[inline(always)]
     fn is_open(&self, now: Ticks) -> bool {
         self.named.is_none()
             && !self.packets.has_ended()
