@@ -17,15 +17,15 @@ import tempfile
 
 ROOT = os.path.dirname(os.path.dirname(os.path.dirname(os.path.realpath(__file__))))
 ROUNDS = 2176
-BOUND = 1_800
+BOUND = 1_700
 # What each row calls, and the functions that are counted for it.
 KINDS = {"opus": "Opus, in order", "ranges": "Opus, ranges of 32 in reverse", "vp8": "VP8, 17 packets a frame"}
 CAPTURE = f"{ROOT}/tools/rtp_record/captures/chromium-vp8"
 # What each row of sessions is, its arguments, and the most instructions of a datagram.
 SESSIONS = [
-    ("1 stream of Opus", ["streams", "1", "4096", "1"], 2_400),
-    ("1,000 streams of Opus", ["streams", "1000", "5", "1"], 2_620),
-    ("a call of Chromium: audio, video, retransmissions, RTCP", ["call", f"{CAPTURE}.sdp", f"{CAPTURE}.pcap"], 3_250),
+    ("1 stream of Opus", ["streams", "1", "4096", "1"], 2_300),
+    ("1,000 streams of Opus", ["streams", "1000", "5", "1"], 2_400),
+    ("a call of Chromium: audio, video, retransmissions, RTCP", ["call", f"{CAPTURE}.sdp", f"{CAPTURE}.pcap"], 3_000),
 ]
 CALLS = {"cpay_receiver_receive": "receive", "cpay_receiver_pop": "pop", "cpay_buffer_push": "push", "cpay_buffer_pop": "pop_buffer"}
 
