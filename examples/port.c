@@ -171,7 +171,7 @@ typedef struct {
     size_t sent;
 } player;
 
-/* Sends a frame, and returns how many datagrams went out. Of every `lost` ones the network loses one; 0: none. */
+/* Sends a frame, and returns how many datagrams it sent. Of every `lost` ones the network loses one; 0: none. */
 static size_t play(player *it, uint64_t rtp_time, size_t size, size_t lost) {
     static uint8_t frame[3000];
     uint8_t datagram[ROOM];
@@ -187,7 +187,7 @@ static size_t play(player *it, uint64_t rtp_time, size_t size, size_t lost) {
     return out;
 }
 
-/* Retransmits what the RTCP that came requests, and returns how many datagrams went out. */
+/* Retransmits what the RTCP that came requests, and returns how many datagrams it sent. */
 static size_t answer(player *it) {
     uint8_t rtcp[ROOM], datagram[ROOM];
     uint16_t numbers[MOST_REQUESTED];
