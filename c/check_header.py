@@ -36,6 +36,7 @@ ENUMS = set()
 # Outputs that may be NULL: the call, and the parameter.
 OPTIONAL = {("cpay_history_keep", "kept")}
 HANDLE = [("cpay_handle", "handle")]
+WIDTH = 132
 VERSION = "cpay_version"
 EXPORT = re.compile(
     r'#\[unsafe\(no_mangle\)\]\s*pub extern "C" fn (\w+)\((.*?)\)(?: -> (\w+))?\s*(?:requires|ensures|\{)', re.S
@@ -237,6 +238,14 @@ def taking_memory():
             marked = False
 
 
+def too_wide():
+    """The lines of the headers that are longer than WIDTH."""
+    for path in sorted(os.listdir(f"{ROOT}/include")):
+        for number, line in enumerate(read(f"include/{path}").split("\n"), 1):
+            if len(line) > WIDTH:
+                yield f"include/{path}:{number}: {len(line)} characters"
+
+
 def main():
     if sys.argv[1:] == ["--calls"]:
         print(calls(header()[0]), end="")
@@ -259,6 +268,7 @@ def main():
     if read("c/src/calls.c") != calls(as_written):
         wrong.append("c/src/calls.c is not what check_header.py --calls prints")
     wrong += [f"c/tests/beyond.c does not call {name}" for name in taking_memory() if f"{name}(" not in read("c/tests/beyond.c")]
+    wrong += too_wide()
     if not functions or not structs:
         wrong.append("no function, or no struct, was found")
     counts = f"{len(functions)} functions and {len(structs)} structs"

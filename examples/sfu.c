@@ -298,8 +298,8 @@ static bool run(unsigned loss) {
     cpay_session_free(&viewer);
     cpay_forwarder_free(&it.viewer);
     cpay_freezes_free(&seen.freezes);
-    /* a ring of packets by hand shows 220 of 232 frames at 5 %, and is frozen for 1602 ms */
-    return seen.switches >= 3 && seen.shown * 232 >= 220 * FRAMES && counts.frozen <= (loss ? 1602 : 0);
+    /* at least 95 of 100 frames, and at most 1.6 s frozen */
+    return seen.switches >= 3 && seen.shown * 100 >= 95 * FRAMES && counts.frozen <= (loss ? 1600 : 0);
 }
 
 int main(void) { return run(0) && run(2) && run(5) ? EXIT_SUCCESS : EXIT_FAILURE; }

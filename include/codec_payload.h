@@ -30,11 +30,11 @@
  * outputs except the bytes, unless its comment says otherwise.
  *
  * HANDLES. A packetizer, a depacketizer, a buffer, a RED sender, a sender, a history, a forwarder, a receiver, an adaptive
- * wait, a counter of freezes, a transport reporter, the sent packets of a transport and a session each live in a handle: a struct of
- * that type in your own memory. Initialise it with CPAY_INIT, create the object by the call named *_new, and end with the call named *_free, which
- * leaves the handle empty. You may free an empty handle. Other calls on an empty handle return CPAY_EMPTY; calls on a handle
- * of another type, as after a cast, return CPAY_OTHER_KIND. Never write into a handle. Never copy a handle in use: the
- * library cannot detect that another copy was freed. You may move it in memory if you forget the old place.
+ * wait, a counter of freezes, a transport reporter, the sent packets of a transport and a session each live in a handle: a struct
+ * of that type in your own memory. Initialise it with CPAY_INIT, create the object by the call named *_new, and end with the call
+ * named *_free, which leaves the handle empty. You may free an empty handle. Other calls on an empty handle return CPAY_EMPTY;
+ * calls on a handle of another type, as after a cast, return CPAY_OTHER_KIND. Never write into a handle. Never copy a handle in
+ * use: the library cannot detect that another copy was freed. You may move it in memory if you forget the old place.
  *
  * MEMORY. The library allocates with the program's malloc and realloc and releases with free, only in calls marked [m]. These
  * functions must belong to one allocator. Each block must be aligned for the type stored in it, at most 8 bytes, as in glibc, musl,
@@ -209,7 +209,13 @@ typedef enum {
 } cpay_codec;
 
 /** Which codec-specific data a unit has: the field `kind` of a cpay_extra. */
-typedef enum { CPAY_EXTRA_NONE = 0, CPAY_EXTRA_VP8 = 1, CPAY_EXTRA_VP9 = 2, CPAY_EXTRA_AV1 = 3, CPAY_EXTRA_TELE = 4 } cpay_extra_kind;
+typedef enum {
+    CPAY_EXTRA_NONE = 0,
+    CPAY_EXTRA_VP8 = 1,
+    CPAY_EXTRA_VP9 = 2,
+    CPAY_EXTRA_AV1 = 3,
+    CPAY_EXTRA_TELE = 4
+} cpay_extra_kind;
 
 /** A handle: the caller's memory for an object of the library. All zeros are an empty handle: initialise it with CPAY_INIT. Its
  * fields belong to the library. */
@@ -516,8 +522,8 @@ CPAY_CHECKED cpay_status cpay_rtp_read(const uint8_t *datagram, size_t datagram_
 /** Reads the value of the first element with this id in the header extension of a datagram (RFC 8285, both forms): 1 to 16
  * bytes, or 0 to 255 in the two-byte form. CPAY_NONE: no such element, no extension, or an extension of another profile.
  * CPAY_RTP_HEADER_TOO_SHORT to CPAY_RTP_PADDING_TOO_LONG: not an RTP packet, as for cpay_rtp_read. Elements after one that
- * extends beyond the end are ignored; in the one-byte form, elements after an id of 15, or of 0 with a length above 0, too. Bytes of
- * padding between elements are skipped. Does not allocate. */
+ * extends beyond the end are ignored; in the one-byte form, elements after an id of 15, or of 0 with a length above 0, too. Bytes
+ * of padding between elements are skipped. Does not allocate. */
 CPAY_CHECKED cpay_status cpay_extension(const uint8_t *datagram, size_t datagram_len, uint8_t id, uint8_t *bytes,
                                         size_t bytes_len, size_t *size);
 
@@ -546,8 +552,8 @@ typedef struct {
     uint32_t ssrc;         /**< choose it at random (RFC 3550, section 8) */
     uint16_t first_number; /**< sequence number of the first packet; choose it at random too */
     uint8_t payload_type;  /**< 0 to 127 */
-    cpay_extension_ids extension_ids; /**< values without an id are not sent; ids must differ. A packet with an id above 14, or a value
-                                           of 0 or more than 16 bytes, has the two-byte form: docs/use/DATAGRAMS.md */
+    cpay_extension_ids extension_ids; /**< values without an id are not sent; ids must differ. A packet with an id above 14, or a
+                                           value of 0 or more than 16 bytes, has the two-byte form: docs/use/DATAGRAMS.md */
 } cpay_sender_settings;
 
 /** Creates a sender in an empty handle. CPAY_INVALID: as for cpay_packetizer_new, `payload_type` above 127, or two header
@@ -618,8 +624,8 @@ CPAY_CHECKED cpay_status cpay_sender_report(cpay_sender *sender, uint64_t now, c
 #define CPAY_MAX_HISTORY 32768
 
 typedef struct {
-    size_t limit;              /**< how many numbers the history covers, 1 to CPAY_MAX_HISTORY: the highest number that was kept, and
-                                    those below it */
+    size_t limit;              /**< how many numbers the history covers, 1 to CPAY_MAX_HISTORY: the highest number that was kept,
+                                    and those below it */
     uint64_t interval;         /**< how many ticks of your clock have to pass before the same packet is resent again; 0: none. About
                                     a round-trip time is useful: a receiver that requests the packet again before that has not
                                     yet seen the answer */
@@ -640,15 +646,15 @@ typedef enum {
                                it had */
 } cpay_kept;
 
-/** Keeps a copy of a datagram at the place of its number. Call it when you send the datagram or, in a forwarder, when you receive it,
- * before SRTP encrypts it. Numbers may come in any order, and may be missing. A number above the highest one becomes the highest
- * one, and packets `limit` or more numbers below it leave. A packet with a kept number replaces the one that was kept; the time
- * at which that one was resent last stays. *kept is what the call did: CPAY_KEPT_STORED or CPAY_KEPT_TOO_OLD; `kept` may be NULL. If
- * the call after CPAY_KEPT_TOO_OLD has the packet with the number after it, the sender has restarted: all others leave, and the
- * history begins with that packet. CPAY_RTP_HEADER_TOO_SHORT to CPAY_RTP_PADDING_TOO_LONG: not an RTP packet. If the call fails,
- * the history and *kept are unchanged. Copies the datagram once. A number ahead of the highest one costs a step for each number in
- * between, at most `limit`. Once a history is full and its memory has grown to the largest packets, the call does not
- * allocate. [m] */
+/** Keeps a copy of a datagram at the place of its number. Call it when you send the datagram or, in a forwarder, when you receive
+ * it, before SRTP encrypts it. Numbers may come in any order, and may be missing. A number above the highest one becomes the
+ * highest one, and packets `limit` or more numbers below it leave. A packet with a kept number replaces the one that was kept; the
+ * time at which that one was resent last stays. *kept is what the call did: CPAY_KEPT_STORED or CPAY_KEPT_TOO_OLD; `kept` may be
+ * NULL. If the call after CPAY_KEPT_TOO_OLD has the packet with the number after it, and would be too old as well, the sender has
+ * restarted: all others leave, and the history begins with that packet. CPAY_RTP_HEADER_TOO_SHORT to CPAY_RTP_PADDING_TOO_LONG: not
+ * an RTP packet. If the call fails, the history and *kept are unchanged. Copies the datagram once. A number ahead of the highest
+ * one costs a step for each number in between, at most `limit`. Once a history is full and its memory has grown to the largest
+ * packets, the call does not allocate. [m] */
 CPAY_CHECKED cpay_status cpay_history_keep(cpay_history *history, const uint8_t *datagram, size_t datagram_len, cpay_kept *kept);
 
 /** What cpay_history_keep_once did with a datagram. */
@@ -658,20 +664,21 @@ typedef enum {
     CPAY_KEPT_OUTDATED = 2 /**< its number is `limit` or more below the highest one. The history does not keep it */
 } cpay_kept_once;
 
-/** Keeps a copy of a datagram as cpay_history_keep does, unless the history has a packet with its number. *kept is what the call did.
- * It is the call of a server, which keeps what arrived once for all viewers of a stream, and forwards each packet once. Make one
- * history for each source, with `interval` 0 and without has_rtx. The packet that was forwarded is then the one that is resent.
- * Numbers may come in any order, and may be missing. Pass a retransmission as cpay_rtx_original writes it. CPAY_RTP_HEADER_TOO_SHORT
- * to CPAY_RTP_PADDING_TOO_LONG: not an RTP packet. If the call fails, the history and *kept are unchanged. [m] */
+/** Keeps a copy of a datagram as cpay_history_keep does, unless the history has a packet with its number. *kept is what the call
+ * did. It is the call of a server, which keeps what arrived once for all viewers of a stream, and forwards each packet once. Make
+ * one history for each source, with `interval` 0 and without has_rtx. The packet that was forwarded is then the one that is resent.
+ * Numbers may come in any order, and may be missing. Pass a retransmission as cpay_rtx_original writes it.
+ * CPAY_RTP_HEADER_TOO_SHORT to CPAY_RTP_PADDING_TOO_LONG: not an RTP packet. If the call fails, the history and *kept are
+ * unchanged. [m] */
 CPAY_CHECKED cpay_status cpay_history_keep_once(cpay_history *history, const uint8_t *datagram, size_t datagram_len,
                                                 cpay_kept_once *kept);
 
-/** Writes the packet that a retransmission repeats (RFC 4588, section 4), and its size to *size. It has the SSRC and the payload type
- * of the stream, which you name; the type is 0 to 127. Its number is in front of the payload of the retransmission, the payload is
- * the rest, and padding is left out. All other fields are those of the retransmission. The size is 2 bytes less than that of the
- * retransmission without its padding. CPAY_TOO_SMALL: *size is written. CPAY_RTP_HEADER_TOO_SHORT to CPAY_RTP_PADDING_TOO_LONG: not
- * an RTP packet. CPAY_RTX_TOO_SHORT: its payload has fewer than 2 bytes, as that of padding that probes the bandwidth. CPAY_INVALID:
- * `payload_type` above 127. [m] */
+/** Writes the packet that a retransmission repeats (RFC 4588, section 4), and its size to *size. It has the SSRC and the payload
+ * type of the stream, which you name; the type is 0 to 127. Its number is in front of the payload of the retransmission, the
+ * payload is the rest, and padding is left out. All other fields are those of the retransmission. The size is 2 bytes less than
+ * that of the retransmission without its padding. CPAY_TOO_SMALL: *size is written. CPAY_RTP_HEADER_TOO_SHORT to
+ * CPAY_RTP_PADDING_TOO_LONG: not an RTP packet. CPAY_RTX_TOO_SHORT: its payload has fewer than 2 bytes, as that of padding that
+ * probes the bandwidth. CPAY_INVALID: `payload_type` above 127. [m] */
 CPAY_CHECKED cpay_status cpay_rtx_original(uint32_t ssrc, uint8_t payload_type, const uint8_t *datagram, size_t datagram_len,
                                            uint8_t *bytes, size_t bytes_len, size_t *size);
 
@@ -682,13 +689,13 @@ typedef enum {
     CPAY_RESENT_TOO_SOON = 2  /**< the packet was resent less than `interval` ago */
 } cpay_resent;
 
-/** Resends the packet with that number at time `now`, in ticks of your clock: writes the datagram to the output buffer, and its size
- * to *size. *resent is what was done: CPAY_RESENT_WRITTEN and so on. With has_rtx the datagram has the SSRC, the payload type and the
- * next number of the retransmissions. The original number is in front of its payload, and padding is left out (RFC 4588, section 4).
- * Otherwise it is the packet as it was. Unless the packet is written, *size is 0, and the output buffer is unchanged. CPAY_TOO_SMALL:
- * the datagram needs *size bytes. Nothing else has changed, *resent too: the number of the retransmission is not used, and the packet
- * does not count as resent. So a first call may pass a length of 0, and you may also leave it at that. If the call fails, the history
- * is unchanged. It allocates only if a datagram is larger than all resent before it. [m] */
+/** Resends the packet with that number at time `now`, in ticks of your clock: writes the datagram to the output buffer, and its
+ * size to *size. *resent is what was done: CPAY_RESENT_WRITTEN and so on. With has_rtx the datagram has the SSRC, the payload type
+ * and the next number of the retransmissions. The original number is in front of its payload, and padding is left out (RFC 4588,
+ * section 4). Otherwise it is the packet as it was. Unless the packet is written, *size is 0, and the output buffer is unchanged.
+ * CPAY_TOO_SMALL: the datagram needs *size bytes. Nothing else has changed, *resent too: the number of the retransmission is not
+ * used, and the packet does not count as resent. So a first call may pass a length of 0, and you may also leave it at that. If the
+ * call fails, the history is unchanged. It allocates only if a datagram is larger than all resent before it. [m] */
 CPAY_CHECKED cpay_status cpay_history_resend(cpay_history *history, uint64_t now, uint16_t number, uint8_t *bytes,
                                              size_t bytes_len, size_t *size, cpay_resent *resent);
 
@@ -717,15 +724,16 @@ typedef struct {
     bool has_rtx;              /**< retransmissions are a separate stream (RFC 4588). If not, a packet is resent as it was sent */
 } cpay_forwarder_settings;
 
-/** Sets how a viewer's stream begins: first number and first time are 0, and a packet is resent as it was sent. Does not allocate. */
+/** Sets how a viewer's stream begins: first number and first time are 0, and a packet is resent as it was sent. Does not allocate.
+ * */
 void cpay_forwarder_settings_init(cpay_forwarder_settings *settings, cpay_codec codec, uint32_t ssrc, uint8_t payload_type);
 
 /** Creates a forwarder in an empty handle. It wants no source yet: call cpay_forwarder_want. CPAY_INVALID: unsupported codec, or a
  * payload type above 127. [m] */
 CPAY_CHECKED cpay_status cpay_forwarder_new(cpay_forwarder *forwarder, const cpay_forwarder_settings *settings);
 
-/** Wants the source with this SSRC: the forwarder goes over to it at its next keyframe. Request one from its sender. Until it comes, the
- * source before is forwarded. Does not allocate. */
+/** Wants the source with this SSRC: the forwarder goes over to it at its next keyframe. Request one from its sender. Until it
+ * comes, the source before is forwarded. Does not allocate. */
 CPAY_CHECKED cpay_status cpay_forwarder_want(cpay_forwarder *forwarder, uint32_t ssrc);
 
 /** Forwards nothing until you want a source again. Then the viewer's stream goes on with a keyframe, also of the same source. So
@@ -741,32 +749,34 @@ CPAY_CHECKED cpay_status cpay_forwarder_wanted(cpay_forwarder *forwarder, uint32
 
 /** What cpay_forwarder_write or cpay_forwarder_leave_out did with a packet. */
 typedef enum {
-    CPAY_FORWARDED_BEGAN = 0,        /**< the packet was written: send it. It is the first of another source. Packets of this source with
-                                          higher numbers may have come before it: pass those that follow it again, from the store */
+    CPAY_FORWARDED_BEGAN = 0,        /**< the packet was written: send it. It is the first of another source. Packets of this source
+                                          with higher numbers may have come before it: pass those that follow it again, from the
+                                          store */
     CPAY_FORWARDED_WRITTEN = 1,      /**< the packet was written: send it */
     CPAY_FORWARDED_NO_KEYFRAME = 2,  /**< the packet is of the wanted source, but a viewer cannot begin with it */
     CPAY_FORWARDED_OTHER_SOURCE = 3, /**< the packet is of a source that the viewer does not get */
-    CPAY_FORWARDED_TOO_OLD = 4,      /**< the packet is older than the keyframe with which its source began, or too old to have a number */
-    CPAY_FORWARDED_LEFT_OUT = 5,     /**< the packet is left out, or was left out before, and has no number. The numbers after it close
-                                          up */
-    CPAY_FORWARDED_FILLED = 6        /**< the packet was left out late. A packet of padding was written under its number: send it, or the
-                                          viewer requests the number */
+    CPAY_FORWARDED_TOO_OLD = 4,      /**< the packet is older than the keyframe with which its source began, or too old to have a
+                                          number */
+    CPAY_FORWARDED_LEFT_OUT = 5,     /**< the packet is left out, or was left out before, and has no number. The numbers after it
+                                          close up */
+    CPAY_FORWARDED_FILLED = 6        /**< the packet was left out late. A packet of padding was written under its number: send it,
+                                          or the viewer requests the number */
 } cpay_forwarded;
 
 /** Writes a packet that arrived, of any source, as the viewer's stream has it, its size to *size, and what was done to *forwarded.
  * Call it before SRTP encrypts the packet. With CPAY_FORWARDED_BEGAN and CPAY_FORWARDED_WRITTEN the packet is in the output buffer.
  * It has the viewer's SSRC and payload type, a number and a time of the viewer's stream, and marker, payload and padding of the
  * packet that arrived. CSRCs and header extensions are left out. In VP8 and VP9 PictureID and TL0PICIDX are those of the viewer's
- * stream, in the widths that arrived. With any other answer *size is 0, and the output buffer is unchanged. `now` is the time of your
- * clock in ticks of the RTP clock. At a switch the time goes on by the ticks since the packet with the highest number was written, at
- * least 1, at most 2^31 - 1. A viewer begins with:
+ * stream, in the widths that arrived. With any other answer *size is 0, and the output buffer is unchanged. `now` is the time of
+ * your clock in ticks of the RTP clock. At a switch the time goes on by the ticks since the packet with the highest number was
+ * written, at least 1, at most 2^31 - 1. A viewer begins with:
  * - CPAY_VP8: the first packet of a keyframe (RFC 7741, section 4.2);
- * - CPAY_VP9: the first packet of the lowest spatial layer of a picture that refers to no other: P is clear, B is set, and L is clear
- *   or SID is 0 (RFC 9628, section 4.2);
+ * - CPAY_VP9: the first packet of the lowest spatial layer of a picture that refers to no other: P is clear, B is set, and L is
+ *   clear or SID is 0 (RFC 9628, section 4.2);
  * - CPAY_AV1: the first packet of a coded video sequence: N is set, and Z is clear;
  * - other codecs: any packet.
- * CPAY_TOO_SMALL: the output buffer has fewer than *size bytes: 12, the payload and the padding. So a buffer of `datagram_len` bytes
- * is always enough. The call is refused whatever the answer would be, and nothing else has changed: call it again.
+ * CPAY_TOO_SMALL: the output buffer has fewer than *size bytes: 12, the payload and the padding. So a buffer of `datagram_len`
+ * bytes is always enough. The call is refused whatever the answer would be, and nothing else has changed: call it again.
  * CPAY_RTP_HEADER_TOO_SHORT to CPAY_RTP_PADDING_TOO_LONG: not an RTP packet. If the call fails, the forwarder is unchanged. It
  * allocates only if a packet is larger than all before it. [m] */
 CPAY_CHECKED cpay_status cpay_forwarder_write(cpay_forwarder *forwarder, uint64_t now, const uint8_t *datagram, size_t datagram_len,
@@ -785,14 +795,15 @@ CPAY_CHECKED cpay_status cpay_forwarder_leave_out(cpay_forwarder *forwarder, con
                                                   uint8_t *bytes, size_t bytes_len, size_t *size, cpay_forwarded *forwarded);
 
 /** Answers the viewer's request for a number (cpay_read_requests with the viewer's SSRC) from the store of the source that is
- * forwarded. The store is a history that has what arrived as it was (without has_rtx). *resent is CPAY_RESENT_WRITTEN: the packet is
- * in the output buffer as it was sent under this number, or with has_rtx as a retransmission (RFC 4588, section 4), and *size is its
- * size. Or it is CPAY_RESENT_NOT_KEPT: no packet was sent under this number, it is too old, or the store does not have it. Then *size
- * is 0, and the output buffer is unchanged. Never CPAY_RESENT_TOO_SOON: limit yourself how often a number is resent, for example once
- * in a round trip. For the number of a packet of padding (CPAY_FORWARDED_FILLED) the packet that was left out is written, and the
- * viewer waits for the rest of its frame: keep padding that you send, and send it again instead. The history does not change.
- * CPAY_TOO_SMALL: the packet needs *size bytes; nothing else has changed. If the call fails, the forwarder is unchanged. CPAY_EMPTY
- * and CPAY_OTHER_KIND apply to the history too. It allocates only if a packet is larger than all before it. [m] */
+ * forwarded. The store is a history that has what arrived as it was (without has_rtx). *resent is CPAY_RESENT_WRITTEN: the packet
+ * is in the output buffer as it was sent under this number, or with has_rtx as a retransmission (RFC 4588, section 4), and *size is
+ * its size. Or it is CPAY_RESENT_NOT_KEPT: no packet was sent under this number, it is too old, or the store does not have it. Then
+ * *size is 0, and the output buffer is unchanged. Never CPAY_RESENT_TOO_SOON: limit yourself how often a number is resent, for
+ * example once in a round trip. For the number of a packet of padding (CPAY_FORWARDED_FILLED) the packet that was left out is
+ * written, and the viewer waits for the rest of its frame: keep padding that you send, and send it again instead. The history does
+ * not change. CPAY_TOO_SMALL: the packet needs *size bytes; nothing else has changed. If the call fails, the forwarder is
+ * unchanged. CPAY_EMPTY and CPAY_OTHER_KIND apply to the history too. It allocates only if a packet is larger than all before it.
+ * [m] */
 CPAY_CHECKED cpay_status cpay_forwarder_resend(cpay_forwarder *forwarder, cpay_history *history, uint16_t number, uint8_t *bytes,
                                                size_t bytes_len, size_t *size, cpay_resent *resent);
 
@@ -812,8 +823,8 @@ typedef struct {
 CPAY_CHECKED cpay_status cpay_forwarder_counts(cpay_forwarder *forwarder, cpay_forwarder_counts_info *counts);
 
 /** Reports the fields of a sender report for the viewer's stream (RFC 3550, section 6.4.1), except its NTP time. Take that of the
- * source's sender report, whose SSRC and RTP time you pass (cpay_session_sender_clock). So audio and video stay together. Packets and
- * octets are the counts, modulo 2^32. CPAY_NONE: this source is not forwarded. Does not allocate. */
+ * source's sender report, whose SSRC and RTP time you pass (cpay_session_sender_clock). So audio and video stay together. Packets
+ * and octets are the counts, modulo 2^32. CPAY_NONE: this source is not forwarded. Does not allocate. */
 CPAY_CHECKED cpay_status cpay_forwarder_report(cpay_forwarder *forwarder, uint32_t ssrc, uint32_t rtp_time,
                                                cpay_sender_report_info *report);
 
@@ -825,11 +836,11 @@ CPAY_CHECKED cpay_status cpay_forwarder_report(cpay_forwarder *forwarder, uint32
 /** For a receiver or a session: a unit may have any number of bytes. */
 #define CPAY_NO_MAX_UNIT SIZE_MAX
 
-/** What a receiver of video does with units that a decoder cannot show. A decoder can show a keyframe. It can show a unit of VP8 with
- * PictureID and TL0PICIDX if it can show all to which that unit may refer (RFC 7741, section 4.2). The same applies to a unit that
- * names its references: by a dependency descriptor, whose id the settings have, or by P_DIFFs of VP9 in the flexible mode. It can
- * show any other contiguous unit after one that it can show. A unit is a keyframe by its frame header. Audio and custom codecs are
- * never inspected. */
+/** What a receiver of video does with units that a decoder cannot show. A decoder can show a keyframe. It can show a unit of VP8
+ * with PictureID and TL0PICIDX if it can show all to which that unit may refer (RFC 7741, section 4.2). The same applies to a unit
+ * that names its references: by a dependency descriptor, whose id the settings have, or by P_DIFFs of VP9 in the flexible mode. It
+ * can show any other contiguous unit after one that it can show. A unit is a keyframe by its frame header. Audio and custom codecs
+ * are never inspected. */
 enum {
     CPAY_KEYFRAME_OFF = 0,  /**< units are not inspected: `decodable` is true, `keyframe` is false */
     CPAY_KEYFRAME_MARK = 1, /**< each unit is released, and `decodable` says whether a decoder can show it; all initialisers set
@@ -839,7 +850,8 @@ enum {
 
 /** What settings are for. Any other number counts as CPAY_FOR_LIVE. */
 typedef enum {
-    CPAY_FOR_LIVE = 0,           /**< live media without retransmission: after a loss the first complete frame waits at most 100 ms */
+    CPAY_FOR_LIVE = 0,           /**< live media without retransmission: after a loss the first complete frame waits at most 100 ms
+                                      */
     CPAY_FOR_LIVE_WITH_NACK = 1, /**< live media with retransmission (RFC 4585): at most 200 ms. For a known round-trip time, set
                                       `max_wait` to twice that time plus 100 ms */
     CPAY_FOR_FILE = 2            /**< packets from a file: a frame after a gap waits for the missing packets until the end, or until
@@ -879,8 +891,8 @@ typedef struct {
     bool has_rtx; /**< retransmissions arrive in a separate stream (RFC 4588) */
     bool has_red_rtx; /**< with has_red and has_rtx: RED packets are retransmitted in that stream too; otherwise it is ignored */
     cpay_extension_ids extension_ids; /**< for cpay_receiver_values; two equal ids read the same element */
-    uint8_t dependency_descriptor;    /**< id of the header extension with the dependency descriptor (AV1 RTP specification, appendix
-                                           A), 1 to 255: `decodable` of VP8, VP9 and AV1 follows it. 0: it is not read */
+    uint8_t dependency_descriptor;    /**< id of the header extension with the dependency descriptor (AV1 RTP specification,
+                                           appendix A), 1 to 255: `decodable` of VP8, VP9 and AV1 follows it. 0: it is not read */
 } cpay_receiver_settings;
 
 /** Sets how a receiver of this codec, clock rate and payload type begins, for a purpose (CPAY_FOR_LIVE and so on). Then change what
@@ -941,8 +953,8 @@ typedef enum {
 CPAY_CHECKED cpay_status cpay_receiver_receive(cpay_receiver *receiver, uint64_t now, const uint8_t *datagram,
                                                size_t datagram_len, cpay_outcome *outcome);
 
-/** Returns the next unit, or the next frame without one, that is due at time `now`. Call it until CPAY_NONE. CPAY_TOO_SMALL: *unit is
- * written, and the unit waits for the next call. CPAY_OUT_OF_MEMORY: the frame stays, and the next call tries it again.
+/** Returns the next unit, or the next frame without one, that is due at time `now`. Call it until CPAY_NONE. CPAY_TOO_SMALL: *unit
+ * is written, and the unit waits for the next call. CPAY_OUT_OF_MEMORY: the frame stays, and the next call tries it again.
  * With CPAY_OK look at `fault` of *unit first. 1 to 16: the depacketizer refused a frame. CPAY_UNIT_TOO_LARGE: a unit is above
  * `max_unit`. In both cases it is discarded, and there are no bytes. Any peer can send such a frame: count it, and continue with
  * the next call. 0: a unit. Its `rtp_time` is extended to 64 bits. The
@@ -1075,10 +1087,10 @@ typedef struct {
  * 1 s. Does not allocate. */
 void cpay_adaptive_wait_settings_init(cpay_adaptive_wait_settings *settings);
 
-/** Creates the limit of one stream in an empty handle. The limit is 5/4 of the greatest of the latest 32 ages, within the bounds. The
- * age of a missing packet is the time from the first report that it is missing until its arrival. If missing packets never
- * arrive, the limit falls to `shortest`. The latest 64 missing packets are followed. examples/waits.c has the loop around a session.
- * It takes about 2 kB. [m] */
+/** Creates the limit of one stream in an empty handle. The limit is 5/4 of the greatest of the latest 32 ages, within the bounds.
+ * The age of a missing packet is the time from the first report that it is missing until its arrival. If missing packets never
+ * arrive, the limit falls to `shortest`. The latest 64 missing packets are followed. examples/waits.c has the loop around a
+ * session. It takes about 2 kB. [m] */
 CPAY_CHECKED cpay_status cpay_adaptive_wait_new(cpay_adaptive_wait *wait, const cpay_adaptive_wait_settings *settings);
 
 /** Records that a packet arrived at time `now`. `number` is its sequence number; for a retransmission (RFC 4588) it is the original
@@ -1096,14 +1108,15 @@ CPAY_CHECKED cpay_status cpay_adaptive_wait_limit(cpay_adaptive_wait *wait, uint
 
 /* ---- Freezes: how often and how long a viewer saw a picture stand still ---- */
 
-/** Creates a counter of the freezes of a video in an empty handle (W3C, webrtc-stats, `freezeCount` and `totalFreezesDuration`), for a
- * clock with `tick_rate` ticks per second. The duration of a frame is the time until the next one is shown. It is a freeze if it is at
- * least three times the average, and at least 150 ms above the average. The average is over the durations of the last 30 frames, with the
- * one that is judged; of the first frames, over those that there are. It takes about 300 bytes. CPAY_INVALID: `tick_rate` is 0. [m] */
+/** Creates a counter of the freezes of a video in an empty handle (W3C, webrtc-stats, `freezeCount` and `totalFreezesDuration`),
+ * for a clock with `tick_rate` ticks per second. The duration of a frame is the time until the next one is shown. It is a freeze if
+ * it is at least three times the average, and at least 150 ms above the average. The average is over the durations of the last 30
+ * frames, with the one that is judged; of the first frames, over those that there are. It takes about 300 bytes. CPAY_INVALID:
+ * `tick_rate` is 0. [m] */
 CPAY_CHECKED cpay_status cpay_freezes_new(cpay_freezes *freezes, uint32_t tick_rate);
 
-/** Records that a frame is shown at time `at`, or that your receiver releases it. Any times are accepted: after a time below the one
- * before, the duration is 0. Does not allocate. */
+/** Records that a frame is shown at time `at`, or that your receiver releases it. Any times are accepted: after a time below the
+ * one before, the duration is 0. Does not allocate. */
 CPAY_CHECKED cpay_status cpay_freezes_shown(cpay_freezes *freezes, uint64_t at);
 
 /** The counts of freezes, each modulo 2^64. */
@@ -1136,26 +1149,26 @@ typedef struct {
  * numbers, of reduced size. Does not allocate. */
 void cpay_transport_reporter_settings_init(cpay_transport_reporter_settings *settings, uint8_t extension_id, uint32_t ssrc);
 
-/** Creates a reporter in an empty handle. It reports when each packet of a transport arrived, as the congestion control of a browser
- * needs it (draft-holmer-rmcat-transport-wide-cc-extensions-01). It is for one transport, that is one peer: the numbers count all
- * packets that this peer sends. `cname` is the canonical name of the reporter (RFC 3550, section 6.5.1), at most 255 bytes; without
- * has_report it is not sent. The name is copied. Do not accept `transport-cc` in an answer unless you send this feedback:
- * docs/use/FEEDBACK.md. CPAY_INVALID: `tick_rate` or `extension_id` 0, `window` out of range, or a longer name. [m] */
+/** Creates a reporter in an empty handle. It reports when each packet of a transport arrived, as the congestion control of a
+ * browser needs it (draft-holmer-rmcat-transport-wide-cc-extensions-01). It is for one transport, that is one peer: the numbers
+ * count all packets that this peer sends. `cname` is the canonical name of the reporter (RFC 3550, section 6.5.1), at most 255
+ * bytes; without has_report it is not sent. The name is copied. Do not accept `transport-cc` in an answer unless you send this
+ * feedback: docs/use/FEEDBACK.md. CPAY_INVALID: `tick_rate` or `extension_id` 0, `window` out of range, or a longer name. [m] */
 CPAY_CHECKED cpay_status cpay_transport_reporter_new(cpay_transport_reporter *reporter,
                                                      const cpay_transport_reporter_settings *settings, const uint8_t *cname,
                                                      size_t cname_len);
 
-/** Records that a datagram arrived at time `now`, in ticks of your clock. Pass each datagram of the transport: media, retransmissions,
- * padding, unknown payload types, duplicates. Any bytes are accepted. A datagram that is not an RTP packet, or that has no number,
- * changes nothing. The first time of a number counts, and a number before the window is ignored. A number that was reported as missing
- * is reported again, with all numbers after it. CPAY_OUT_OF_MEMORY: nothing changed. [m] */
+/** Records that a datagram arrived at time `now`, in ticks of your clock. Pass each datagram of the transport: media,
+ * retransmissions, padding, unknown payload types, duplicates. Any bytes are accepted. A datagram that is not an RTP packet, or
+ * that has no number, changes nothing. The first time of a number counts, and a number before the window is ignored. A number that
+ * was reported as missing is reported again, with all numbers after it. CPAY_OUT_OF_MEMORY: nothing changed. [m] */
 CPAY_CHECKED cpay_status cpay_transport_reporter_receive(cpay_transport_reporter *reporter, uint64_t now,
                                                          const uint8_t *datagram, size_t datagram_len);
 
-/** Writes the packet that is due at time `now`, a compound packet of RTCP for the peer, to the output buffer, and its size to *size:
- * send it. Call it until CPAY_NONE, after each datagram and at each deadline: a feedback that is larger than the setting `size` is
- * split, and its parts are due at once. CPAY_NONE: nothing is due. CPAY_TOO_SMALL: *size is written, and the packet waits for the next
- * call. CPAY_OUT_OF_MEMORY: the feedback stays due. [m] */
+/** Writes the packet that is due at time `now`, a compound packet of RTCP for the peer, to the output buffer, and its size to
+ * *size: send it. Call it until CPAY_NONE, after each datagram and at each deadline: a feedback that is larger than the setting
+ * `size` is split, and its parts are due at once. CPAY_NONE: nothing is due. CPAY_TOO_SMALL: *size is written, and the packet waits
+ * for the next call. CPAY_OUT_OF_MEMORY: the feedback stays due. [m] */
 CPAY_CHECKED cpay_status cpay_transport_reporter_poll(cpay_transport_reporter *reporter, uint64_t now, uint8_t *bytes,
                                                       size_t bytes_len, size_t *size);
 
@@ -1163,13 +1176,13 @@ CPAY_CHECKED cpay_status cpay_transport_reporter_poll(cpay_transport_reporter *r
  * feedback are left, or while a packet waits that did not fit. CPAY_NONE: everything is reported. Does not allocate. */
 CPAY_CHECKED cpay_status cpay_transport_reporter_next_deadline(cpay_transport_reporter *reporter, uint64_t *at);
 
-/** Forgets all numbers, and the packet that waits: the peer begins again. Without this call numbers behind the window are ignored until
- * they pass the highest one. */
+/** Forgets all numbers, and the packet that waits: the peer begins again. Without this call numbers behind the window are ignored
+ * until they pass the highest one. */
 CPAY_CHECKED cpay_status cpay_transport_reporter_restart(cpay_transport_reporter *reporter);
 
-/** Creates the counter of a transport on which you send in an empty handle. Its first number is 0. The times of the last `limit` packets
- * are remembered, 1 to 32768, 8 bytes each: those of the round-trip time and of the interval between two feedbacks suit. One counter
- * serves all streams of a transport, their retransmissions and padding. CPAY_INVALID: `limit` out of range. [m] */
+/** Creates the counter of a transport on which you send in an empty handle. Its first number is 0. The times of the last `limit`
+ * packets are remembered, 1 to 32768, 8 bytes each: those of the round-trip time and of the interval between two feedbacks suit.
+ * One counter serves all streams of a transport, their retransmissions and padding. CPAY_INVALID: `limit` out of range. [m] */
 CPAY_CHECKED cpay_status cpay_sent_packets_new(cpay_sent_packets *packets, size_t limit);
 
 /** Counts the next packet of the transport, which is sent at time `now`, and writes its number, for cpay_number_datagram.
@@ -1179,12 +1192,12 @@ CPAY_CHECKED cpay_status cpay_sent_packets_assign(cpay_sent_packets *packets, ui
 /** Reports when the packet with this number was sent. CPAY_NONE: it is not among the remembered packets. Does not allocate. */
 CPAY_CHECKED cpay_status cpay_sent_packets_sent_at(cpay_sent_packets *packets, uint16_t number, uint64_t *at);
 
-/** Writes a copy of a datagram with this transport-wide number in its header extension, under this id, 1 to 255, and its size to *size.
- * Elements with other ids stay, in their order, and the number is the last one; an element with the same id is replaced. All else of
- * the packet stays, and the bytes of padding become 0. The datagram grows by at most 8 bytes; if an id above 14 needs the two-byte
- * form (RFC 8285), by one more for each other element. Call it before SRTP encrypts the datagram. CPAY_TOO_SMALL: *size is written.
- * CPAY_RTP_HEADER_TOO_SHORT to CPAY_RTP_PADDING_TOO_LONG: not an RTP packet. CPAY_EXTENSION_PROFILE: its extension has no elements.
- * CPAY_EXTENSION_ROOM: its extension would be longer than 65535 words, or the id is 0. [m] */
+/** Writes a copy of a datagram with this transport-wide number in its header extension, under this id, 1 to 255, and its size to
+ * *size. Elements with other ids stay, in their order, and the number is the last one; an element with the same id is replaced. All
+ * else of the packet stays, and the bytes of padding become 0. The datagram grows by at most 8 bytes; if an id above 14 needs the
+ * two-byte form (RFC 8285), by one more for each other element. Call it before SRTP encrypts the datagram. CPAY_TOO_SMALL: *size is
+ * written. CPAY_RTP_HEADER_TOO_SHORT to CPAY_RTP_PADDING_TOO_LONG: not an RTP packet. CPAY_EXTENSION_PROFILE: its extension has no
+ * elements. CPAY_EXTENSION_ROOM: its extension would be longer than 65535 words, or the id is 0. [m] */
 CPAY_CHECKED cpay_status cpay_number_datagram(uint8_t extension_id, uint16_t number, const uint8_t *datagram, size_t datagram_len,
                                               uint8_t *bytes, size_t bytes_len, size_t *size);
 
@@ -1204,28 +1217,28 @@ typedef struct {
     bool arrived;    /**< false: it is missing so far */
 } cpay_packet_arrival;
 
-/** Reads transport-wide feedback number `index`, from 0, of one datagram of RTCP: what it says about each packet goes to `packets`, in
- * the order of the numbers. `full` is as for cpay_read_requests. With CPAY_OK, elements after the first `count` are unchanged.
+/** Reads transport-wide feedback number `index`, from 0, of one datagram of RTCP: what it says about each packet goes to `packets`,
+ * in the order of the numbers. `full` is as for cpay_read_requests. With CPAY_OK, elements after the first `count` are unchanged.
  * CPAY_NONE: the datagram has no feedback with this index. CPAY_TOO_SMALL: `packets` is too short; *info is written.
  * CPAY_RTCP_HEADER_TOO_SHORT to CPAY_RTCP_FIR_LENGTH: not a compound RTCP packet. CPAY_TRANSPORT_HEADER_TOO_SHORT to
- * CPAY_TRANSPORT_DELTAS_TOO_SHORT: the first fault of the feedback; others in the datagram may be read. Any peer can make it allocate
- * 600 kB for the time of the call. [m] */
+ * CPAY_TRANSPORT_DELTAS_TOO_SHORT: the first fault of the feedback; others in the datagram may be read. Any peer can make it
+ * allocate 600 kB for the time of the call. [m] */
 CPAY_CHECKED cpay_status cpay_read_transport_feedback(const uint8_t *rtcp, size_t rtcp_len, bool full, size_t index,
                                                       cpay_transport_feedback_info *info, cpay_packet_arrival *packets,
                                                       size_t packets_len);
 
 /** Writes a packet of REMB to the output buffer, and its size to *size: 20 bytes, and 4 for each SSRC. It asks the sender of these
  * streams, at most 255, to send at most this bitrate together (draft-alvestrand-rmcat-remb-03). The bitrate, in bits per second, is
- * rounded down to 18 binary digits. The packet has no padding, and may stand anywhere in a compound packet. CPAY_TOO_SMALL: *size is
- * written. CPAY_INVALID: more than 255 SSRCs. [m] */
+ * rounded down to 18 binary digits. The packet has no padding, and may stand anywhere in a compound packet. CPAY_TOO_SMALL: *size
+ * is written. CPAY_INVALID: more than 255 SSRCs. [m] */
 CPAY_CHECKED cpay_status cpay_write_remb(uint32_t sender_ssrc, uint64_t bitrate, const uint32_t *ssrcs, size_t ssrcs_len,
                                          uint8_t *bytes, size_t bytes_len, size_t *size);
 
-/** Reads application layer feedback number `index`, from 0, of one datagram of RTCP, as REMB. `full` is as for cpay_read_requests. The
- * SSRCs go to `ssrcs`, as many as fit; the rest is unchanged. *count is how many there are, at most 255. *bitrate is in bits per
- * second. CPAY_NONE: the datagram has no such feedback with this index. CPAY_RTCP_HEADER_TOO_SHORT to CPAY_RTCP_FIR_LENGTH: not a
- * compound RTCP packet. CPAY_REMB_TOO_SHORT to CPAY_REMB_SOURCES_TOO_SHORT: this feedback is not REMB; another one in the datagram
- * may be. Does not allocate. */
+/** Reads application layer feedback number `index`, from 0, of one datagram of RTCP, as REMB. `full` is as for cpay_read_requests.
+ * The SSRCs go to `ssrcs`, as many as fit; the rest is unchanged. *count is how many there are, at most 255. *bitrate is in bits
+ * per second. CPAY_NONE: the datagram has no such feedback with this index. CPAY_RTCP_HEADER_TOO_SHORT to CPAY_RTCP_FIR_LENGTH: not
+ * a compound RTCP packet. CPAY_REMB_TOO_SHORT to CPAY_REMB_SOURCES_TOO_SHORT: this feedback is not REMB; another one in the
+ * datagram may be. Does not allocate. */
 CPAY_CHECKED cpay_status cpay_read_remb(const uint8_t *rtcp, size_t rtcp_len, bool full, size_t index, uint64_t *bitrate,
                                         uint32_t *ssrcs, size_t ssrcs_len, size_t *count);
 
@@ -1235,8 +1248,8 @@ CPAY_CHECKED cpay_status cpay_read_remb(const uint8_t *rtcp, size_t rtcp_len, bo
 typedef struct {
     cpay_spec spec;           /**< `first_id`, `vp8_ids` and `vp9_flexible` are ignored */
     uint32_t red_step;        /**< with has_red: RTP timestamp increment per packet, 1 to 16383; 960 is 20 ms at 48 kHz */
-    uint8_t payload_type;     /**< this one and the next three are 0 to 63 or 96 to 127: with a marker, packets of 64 to 95 look like
-                                   RTCP (RFC 5761, section 4). Each payload type of a session has one meaning */
+    uint8_t payload_type;     /**< this one and the next three are 0 to 63 or 96 to 127: with a marker, packets of 64 to 95 look
+                                   like RTCP (RFC 5761, section 4). Each payload type of a session has one meaning */
     uint8_t red_payload_type; /**< with has_red: payload type of RED */
     uint8_t rtx_payload_type; /**< with has_rtx: payload type of retransmissions */
     uint8_t red_rtx_payload_type; /**< with has_red_rtx: payload type of retransmitted RED packets: the one whose `apt` (RFC 4588,
@@ -1262,19 +1275,25 @@ typedef struct {
 
 /** Who requests missing packets and keyframes and sends receiver reports, and when. Times are in ticks of your clock. */
 typedef struct {
-    uint64_t keyframe_interval; /**< least time between two requests of a stream for a keyframe */
+    uint64_t keyframe_interval; /**< least time between two requests of a stream for a keyframe; once the round trip is known, they
+                                     are also one and a half round trips apart */
     uint64_t silence;           /**< a stream requests nothing once its latest datagram is older than this: nobody answers then */
     uint64_t first_wait;        /**< time from the moment that a number is first missing until its first request */
-    uint64_t retry;             /**< time between two requests of a number while the round-trip time is unknown */
+    uint64_t retry;             /**< time between two requests of a number until two requests were answered. Then it is 9/8 of the
+                                     round trip and half of `first_wait`, within the next two times. It is always at most a
+                                     quarter of the longest time for which a frame of the stream waits, but not below
+                                     `shortest_retry` */
     uint64_t shortest_retry;    /**< least time between two requests of a number once the round-trip time is known */
     uint64_t longest_retry;     /**< largest time between them; if it is below `shortest_retry`, it wins */
-    uint64_t longest_wait;      /**< with has_longest_wait: `max_wait` of a stream becomes `first_wait` and four round trips: at
-                                     least its own value in the settings, and at most this time. Until the first answer to a
-                                     request, video with nack waits for this time, and all else as the settings say */
+    uint64_t longest_wait;      /**< with has_longest_wait: a frame waits as long as a request of one of its packets can still be
+                                     answered: `first_wait`, and `tries` times the time between two requests. At least as long
+                                     as `max_wait` of the settings, and at most this time. Until two requests were answered,
+                                     video with nack waits for this time, and all else as the settings say. For a stricter
+                                     delay, set it to that delay */
     uint64_t report_interval;   /**< with has_report_interval: time between two receiver reports of the session; 0 counts as 1. See
                                      CPAY_EVENT_REPORT */
-    size_t max_report;          /**< largest number of bytes of a receiver report. If more streams are announced than blocks fit, they
-                                     take turns (RFC 3550, section 6.1); one block is written also if it does not fit */
+    size_t max_report;          /**< largest number of bytes of a receiver report. If more streams are announced than blocks fit,
+                                     they take turns (RFC 3550, section 6.1); one block is written also if it does not fit */
     size_t capacity;            /**< how many missing numbers of a stream are followed at most: the lowest */
     uint32_t tries;             /**< how often a number is requested at most; 0 requests nothing */
     uint32_t ssrc;              /**< SSRC of the session as a sender of RTCP */
@@ -1293,8 +1312,8 @@ typedef struct {
     uint64_t interval;    /**< number of ticks between two feedbacks; 0 counts as 1. 100 by default: 50 to 250 ms suit video */
     size_t size;          /**< maximum size of the control information of a feedback in bytes; 1100 to begin with. A larger feedback
                                is split */
-    size_t window;        /**< number of packets that are remembered, 1 to 32768, 8 bytes each; 2048 to begin with. A packet that comes
-                               late is reported if it is among them */
+    size_t window;        /**< number of packets that are remembered, 1 to 32768, 8 bytes each; 2048 to begin with. A packet that
+                               comes late is reported if it is among them */
     uint8_t extension_id; /**< id of the header extension with the transport-wide number (`a=extmap`), 1 to 255 */
 } cpay_session_transport;
 
@@ -1324,29 +1343,32 @@ typedef struct {
     uint8_t from_keyframe;    /**< what happens to video units that a decoder cannot show: CPAY_KEYFRAME_OFF, CPAY_KEYFRAME_MARK
                                    or CPAY_KEYFRAME_DROP */
     bool has_feedback;        /**< the session requests what its streams miss: see CPAY_EVENT_FEEDBACK */
-    bool has_transport;       /**< the session reports when packets arrive: see CPAY_EVENT_TRANSPORT_FEEDBACK. Set it exactly if your
-                                   session description accepts the header extension and `transport-cc`: a browser that finds them
-                                   accepted and gets no feedback sends almost nothing. It works only with has_feedback, and for one
-                                   peer: the numbers count all packets of one transport */
+    bool has_transport;       /**< the session reports when packets arrive: see CPAY_EVENT_TRANSPORT_FEEDBACK. Set it exactly if
+                                   your session description accepts the header extension and `transport-cc`: a browser that finds
+                                   them accepted and gets no feedback sends almost nothing. It works only with has_feedback, and for
+                                   one peer: the numbers count all packets of one transport */
     cpay_session_feedback feedback;   /**< with has_feedback: see cpay_session_settings_feedback */
     cpay_extension_ids extension_ids; /**< for cpay_session_values; two equal ids read the same element */
     cpay_session_transport transport; /**< with has_transport */
     cpay_stream_name_ids name_ids;    /**< for cpay_session_names */
-    uint8_t dependency_descriptor;    /**< id of the header extension with the dependency descriptor (AV1 RTP specification, appendix
-                                           A), 1 to 255, which streams of VP8, VP9 and AV1 may have: `decodable` follows it. Set it
-                                           exactly if your session description accepts the extension. 0: it is not read */
+    uint8_t dependency_descriptor;    /**< id of the header extension with the dependency descriptor (AV1 RTP specification,
+                                           appendix A), 1 to 255, which streams of VP8, VP9 and AV1 may have: `decodable` follows
+                                           it. Set it exactly if your session description accepts the extension. 0: it is not read
+                                           */
 } cpay_session_settings;
 
 /** Sets how a session begins, for a purpose (CPAY_FOR_LIVE and so on) and a clock of milliseconds. Audio waits as the purpose says,
- * and live video for at most 200 ms. A session has at most 64 streams of 4096 packets, and a unit at most 1048576 bytes. A stream is
- * announced with its second datagram, ends 30 s after its last one, and takes packets for 200 ms after its BYE. Units that a decoder
- * cannot show are marked. Nothing is requested, and no report is sent: see cpay_session_settings_feedback. Does not allocate. */
+ * and live video for at most 200 ms. A session has at most 64 streams of 4096 packets, and a unit at most 1048576 bytes. A stream
+ * is announced with its second datagram, ends 30 s after its last one, and takes packets for 200 ms after its BYE. Units that a
+ * decoder cannot show are marked. Nothing is requested, and no report is sent: see cpay_session_settings_feedback. Does not
+ * allocate. */
 void cpay_session_settings_init(cpay_session_settings *settings, cpay_purpose purpose);
 
 /** Sets that the session sends feedback, as a sender of RTCP with this SSRC and this canonical name (RFC 3550, section 6.5.1). As
- * cpay_session_settings_init sets it, a missing number is requested after 10 ms and at most 6 times, if the format has `nack`. If it
- * has `pli`, a keyframe is requested at most once in 500 ms. Both go on for 2 s after the latest datagram of the stream. Waiting
- * follows the round trip, up to 800 ms. A receiver report is sent each second. CPAY_INVALID: the name does not have 1 to 255 bytes.
+ * cpay_session_settings_init sets it, a missing number is requested after 10 ms and at most 6 times, if the format has `nack`. If
+ * it has `pli`, a keyframe is requested at most once in 100 ms. Both go on for 2 s after the latest datagram of the stream. Waiting
+ * follows the round trip, up to 1500 ms. A receiver report is sent each second. CPAY_INVALID: the name does not have 1 to 255
+ * bytes.
  * Does not allocate. */
 CPAY_CHECKED cpay_status cpay_session_settings_feedback(cpay_session_settings *settings, uint32_t ssrc, const uint8_t *cname,
                                                         size_t cname_len);
@@ -1357,8 +1379,8 @@ CPAY_CHECKED cpay_status cpay_session_settings_feedback(cpay_session_settings *s
 /** Creates a session in an empty handle, for these payload formats. `no_media` lists payload types that share the SSRC and the
  * numbers of a stream and carry none of its media: comfort noise, error correction. A payload type plus CPAY_TELEPHONE is one of
  * telephone events beside audio: polls report its packets. `pairs` names the SSRCs of retransmissions. The lists are copied.
- * CPAY_INVALID: unsupported codec, a rate, payload type, step, `limit`, `max_streams` or `from_keyframe` out of range, a payload type
- * with two meanings, or with has_feedback no name: cpay_session_settings_check says which. [m] */
+ * CPAY_INVALID: unsupported codec, a rate, payload type, step, `limit`, `max_streams` or `from_keyframe` out of range, a payload
+ * type with two meanings, or with has_feedback no name: cpay_session_settings_check says which. [m] */
 CPAY_CHECKED cpay_status cpay_session_new(cpay_session *session, const cpay_session_settings *settings,
                                           const cpay_session_format *formats, size_t formats_len, const uint8_t *no_media,
                                           size_t no_media_len, const cpay_ssrc_pair *pairs, size_t pairs_len);
@@ -1425,13 +1447,14 @@ typedef struct {
 /** Processes one datagram of the port, received at time `now`, in ticks of your clock, and reports what was done with it. Any bytes
  * are accepted. Its SSRC and its payload type identify the stream, which it begins if there is none and a place is free. If all
  * places are taken, the new stream replaces the first one that is not announced yet. The stream is found by a search, so the time
- * grows with the logarithm of the number of streams. CPAY_OUT_OF_MEMORY: the datagram is not counted, and you may pass it again. [m] */
+ * grows with the logarithm of the number of streams. CPAY_OUT_OF_MEMORY: the datagram is not counted, and you may pass it again.
+ * [m] */
 CPAY_CHECKED cpay_status cpay_session_receive(cpay_session *session, uint64_t now, const uint8_t *datagram, size_t datagram_len,
                                               cpay_arrival *arrival);
 
 /** Does the same for a datagram that arrived at `micros`, in microseconds of any clock: the time stamp of your socket, say.
- * CPAY_EVENT_TRANSPORT_FEEDBACK then reports this time instead of `now`; all else goes by `now`. A browser estimates by differences of
- * a millisecond, so it sends more if the times are finer than your ticks. Use one of the two calls for all datagrams. [m] */
+ * CPAY_EVENT_TRANSPORT_FEEDBACK then reports this time instead of `now`; all else goes by `now`. A browser estimates by differences
+ * of a millisecond, so it sends more if the times are finer than your ticks. Use one of the two calls for all datagrams. [m] */
 CPAY_CHECKED cpay_status cpay_session_receive_at(cpay_session *session, uint64_t now, uint64_t micros, const uint8_t *datagram,
                                                  size_t datagram_len, cpay_arrival *arrival);
 
@@ -1471,7 +1494,8 @@ typedef struct {
     uint32_t ssrc;        /**< SSRC of the stream */
     cpay_status status;   /**< of CPAY_EVENT_FAULT: the error, 1 to 16 or CPAY_UNIT_TOO_LARGE; of other events CPAY_OK */
     cpay_ending why;      /**< of CPAY_EVENT_ENDED: CPAY_ENDED_BY_BYE and so on; of other events 0 */
-    const uint8_t *data;  /**< its bytes: of the unit, the RTCP packet, or the payload of telephone events. Read none if `bytes` is 0 */
+    const uint8_t *data;  /**< its bytes: of the unit, the RTCP packet, or the payload of telephone events. Read none if `bytes` is
+                               0 */
     size_t bytes;         /**< how many bytes are at `data`; 0 for other events */
     uint8_t payload_type; /**< payload type of the stream's format, also if the unit came in RED or was retransmitted; of
                                CPAY_EVENT_TELEPHONE the payload type of the packet */
@@ -1479,20 +1503,21 @@ typedef struct {
                                32 bits as in the packet, `bytes`, and the marker in `starts_talk_spurt`. All other fields are 0 */
 } cpay_event;
 
-/** Reports the next event at time `now`. Call it until CPAY_NONE after each datagram and at each deadline. Telephone events that wait
- * come first, at most 32 of them. Then the streams are asked in the order in which they began; each stream has CPAY_EVENT_BEGUN
- * first, then its units in order, and CPAY_EVENT_ENDED last. `event->data` lends `event->bytes` bytes in the session's memory. They
- * stay there until the next cpay_session_poll with this session, which may move or free them, or until cpay_session_free. No other
- * call changes them. Never write them. CPAY_NONE: there is no event. CPAY_OUT_OF_MEMORY: the frame, the request or the report stays,
- * and the next call tries it again. Both leave *event unchanged; bytes that it still points to are lent no longer. [m] */
+/** Reports the next event at time `now`. Call it until CPAY_NONE after each datagram and at each deadline. Telephone events that
+ * wait come first, at most 32 of them. Then the streams are asked in the order in which they began; each stream has
+ * CPAY_EVENT_BEGUN first, then its units in order, and CPAY_EVENT_ENDED last. `event->data` lends `event->bytes` bytes in the
+ * session's memory. They stay there until the next cpay_session_poll with this session, which may move or free them, or until
+ * cpay_session_free. No other call changes them. Never write them. CPAY_NONE: there is no event. CPAY_OUT_OF_MEMORY: the frame, the
+ * request or the report stays, and the next call tries it again. Both leave *event unchanged; bytes that it still points to are
+ * lent no longer. [m] */
 CPAY_CHECKED cpay_status cpay_session_poll(cpay_session *session, uint64_t now, cpay_event *event);
 
 /** Reports the header extension values of the unit that cpay_session_poll returned last: see cpay_receiver_values.
  * CPAY_NONE: no unit was returned yet. Does not allocate. */
 CPAY_CHECKED cpay_status cpay_session_values(cpay_session *session, cpay_extension_values *values);
 
-/** Reports the time at which a poll may have an event although no datagram arrives: 0 while telephone events wait. CPAY_NONE: only a
- * datagram can help. If a poll had no event and no packet left a stream in it, no earlier poll has one: docs/use/SESSION.md. */
+/** Reports the time at which a poll may have an event although no datagram arrives: 0 while telephone events wait. CPAY_NONE: only
+ * a datagram can help. If a poll had no event and no packet left a stream in it, no earlier poll has one: docs/use/SESSION.md. */
 CPAY_CHECKED cpay_status cpay_session_next_deadline(cpay_session *session, uint64_t *at);
 
 /** Ends the streams of this SSRC at time `now`: polls report their complete units, and then CPAY_EVENT_ENDED. Without such a stream
@@ -1500,8 +1525,8 @@ CPAY_CHECKED cpay_status cpay_session_next_deadline(cpay_session *session, uint6
 CPAY_CHECKED cpay_status cpay_session_end(cpay_session *session, uint64_t now, uint32_t ssrc);
 
 /** Forgets which packets of the transport arrived. Call it if another peer takes over the transport, or the peer counts from a new
- * number: without this call, numbers behind the last `window` ones are ignored until they pass the highest one. Without has_transport
- * nothing changes. */
+ * number: without this call, numbers behind the last `window` ones are ignored until they pass the highest one. Without
+ * has_transport nothing changes. */
 CPAY_CHECKED cpay_status cpay_session_restart_transport(cpay_session *session);
 
 /** Ends all streams at time `now`, announced or not: polls report their complete units, and then CPAY_EVENT_ENDED for each. From
@@ -1539,7 +1564,8 @@ typedef struct {
     uint64_t bytes;       /**< bytes of payload of these datagrams, without headers and padding, modulo 2^64: `bytesReceived` of the
                                W3C's statistics */
     uint64_t ends_at;     /**< of CPAY_STREAM_LEAVING: the time, in ticks of your clock; in other stages 0 */
-    uint64_t round_trip;  /**< with has_round_trip: measured round-trip time, in ticks of your clock; else 0 */
+    uint64_t round_trip;  /**< with has_round_trip: round-trip time, the median of the latest five answers to requests, each from
+                               the first request of its number, in ticks of your clock; else 0 */
     uint64_t numbers_requested;   /**< missing packets that the session requested, each request counted, modulo 2^64 */
     uint64_t keyframes_requested; /**< keyframes that the session requested, modulo 2^64 */
     uint32_t ssrc;
@@ -1554,8 +1580,8 @@ typedef struct {
 CPAY_CHECKED cpay_status cpay_session_stream_at(cpay_session *session, size_t place, cpay_session_stream *stream);
 
 /** Describes the stream that the session removed last, as it was then: at CPAY_EVENT_ENDED the stream of the event, with its last
- * counts. A stream in probation that a new stream replaced is described too, without an event. CPAY_NONE: none was removed. Does not
- * allocate. */
+ * counts. A stream in probation that a new stream replaced is described too, without an event. CPAY_NONE: none was removed. Does
+ * not allocate. */
 CPAY_CHECKED cpay_status cpay_session_last_stream(cpay_session *session, cpay_session_stream *stream);
 
 /** Reports the missing sequence numbers of the stream with this SSRC and payload type: see cpay_receiver_missing. CPAY_NONE: there
@@ -1604,8 +1630,8 @@ typedef struct {
 CPAY_CHECKED cpay_status cpay_session_sender_clock(cpay_session *session, uint32_t ssrc, uint8_t payload_type,
                                                    cpay_sender_clock_info *clock);
 
-/** The names of a stream. A length of 0: no packet of the stream had the name so far. A name can have any bytes, so check them before
- * you print it; zeros follow them, but no zero follows a name of 32 bytes. */
+/** The names of a stream. A length of 0: no packet of the stream had the name so far. A name can have any bytes, so check them
+ * before you print it; zeros follow them, but no zero follows a name of 32 bytes. */
 typedef struct {
     uint8_t mid[32];          /**< which media description (`a=mid`) the stream belongs to */
     uint8_t rid[32];          /**< which of the streams of a simulcast (`a=rid`) it is */
@@ -1615,17 +1641,25 @@ typedef struct {
     uint8_t repaired_rid_len;
 } cpay_stream_names;
 
-/** Reports the names of the stream with this SSRC and payload type. Call it at CPAY_EVENT_BEGUN: so a server that receives a simulcast
- * knows which stream is which before any SSRC was signalled. A stream takes names from the packets that it accepts, under `name_ids` of
- * the settings: of media, of retransmissions, and without media. The latest value of each name is kept; a value without a byte, or of
- * more than 32, is ignored. Senders stop sending names once they know that they arrived, so a stream in another format under the same
- * SSRC can lack them: the earlier stream still has them. CPAY_NONE: there is no such stream. Does not allocate. */
+/** Reports the names of the stream with this SSRC and payload type. Call it at CPAY_EVENT_BEGUN: so a server that receives a
+ * simulcast knows which stream is which before any SSRC was signalled. A stream takes names from the packets that it accepts, under
+ * `name_ids` of the settings: of media, of retransmissions, and without media. The latest value of each name is kept; a value
+ * without a byte, or of more than 32, is ignored. Senders stop sending names once they know that they arrived, so a stream in
+ * another format under the same SSRC can lack them: the earlier stream still has them. CPAY_NONE: there is no such stream. Does not
+ * allocate. */
 CPAY_CHECKED cpay_status cpay_session_names(cpay_session *session, uint32_t ssrc, uint8_t payload_type, cpay_stream_names *names);
 
 /** Replaces the wait limits of the stream with this SSRC and payload type: see cpay_receiver_set_wait_limits. CPAY_NONE: there is
  * no such stream. */
 CPAY_CHECKED cpay_status cpay_session_set_wait_limits(cpay_session *session, uint32_t ssrc, uint8_t payload_type,
                                                       const cpay_wait_limits *wait_limits);
+
+/** Sets the round trip of the stream with this SSRC and payload type, in ticks, as reports measured it: extended reports (RFC
+ * 3611), or the checks of ICE (RFC 8445). From now on the times of its requests and its waits follow it, in place of the answers to
+ * requests: call it when the stream begins, and with each report. 0: the answers count, so pass 1 for a shorter one. CPAY_NONE:
+ * there is no such stream. Does not allocate. */
+CPAY_CHECKED cpay_status cpay_session_set_round_trip(cpay_session *session, uint32_t ssrc, uint8_t payload_type,
+                                                     uint64_t round_trip);
 
 /** Names the SSRC of the retransmissions of `ssrc` (`a=ssrc-group:FID`), for a sender that joins later: streams that exist take
  * them too. The later pair wins: it replaces the pair with the same `ssrc`, and the pair with the same `retransmission`.
@@ -1647,10 +1681,10 @@ typedef enum {
 /** Asks the sender of the stream with this SSRC for a keyframe, by a PLI (RFC 4585, section 6.3.1), for another receiver that needs
  * one: a viewer that joins, or that sent a PLI. *answer is what the session does. The PLI is in the stream's next
  * CPAY_EVENT_FEEDBACK, beside what the session requests itself. All share one limit: two PLIs of a stream are at least
- * `keyframe_interval` apart, and within the interval a request waits. cpay_session_next_deadline is at most the time at which it can
- * leave. One PLI answers all requests before it, and so does a keyframe that a poll reports. A PLI can be lost: call this as often as
- * you like, as long as you need a keyframe. A stream in probation sends its PLI once it is announced, and a stream whose sender is
- * silent once a datagram arrives. With two streams of the SSRC, as after a change of format, the first one asks. Does not
+ * `keyframe_interval` apart, and within the interval a request waits. cpay_session_next_deadline is at most the time at which it
+ * can leave. One PLI answers all requests before it, and so does a keyframe that a poll reports. A PLI can be lost: call this as
+ * often as you like, as long as you need a keyframe. A stream in probation sends its PLI once it is announced, and a stream whose
+ * sender is silent once a datagram arrives. With two streams of the SSRC, as after a change of format, the first one asks. Does not
  * allocate. */
 CPAY_CHECKED cpay_status cpay_session_request_keyframe(cpay_session *session, uint32_t ssrc, cpay_keyframe_answer *answer);
 
@@ -1658,7 +1692,8 @@ CPAY_CHECKED cpay_status cpay_session_request_keyframe(cpay_session *session, ui
  * fields, go on. All other streams end at `now`: polls report their complete units, and then CPAY_EVENT_ENDED with
  * CPAY_ENDED_BY_CHANGE. Media of a new format begin a stream as usual. Datagrams of a payload type that is gone are
  * CPAY_ARRIVAL_UNKNOWN, also for a stream that ends. All other settings stay. The list is copied. CPAY_INVALID: the formats are
- * none that cpay_session_new accepts with the other settings, and nothing has changed. CPAY_OUT_OF_MEMORY: nothing has changed. [m] */
+ * none that cpay_session_new accepts with the other settings, and nothing has changed. CPAY_OUT_OF_MEMORY: nothing has changed. [m]
+ * */
 CPAY_CHECKED cpay_status cpay_session_set_formats(cpay_session *session, uint64_t now, const cpay_session_format *formats,
                                                   size_t formats_len);
 
@@ -1675,21 +1710,22 @@ typedef struct {
     bool is_sender;    /**< it is a sender report. A receiver report has neither times nor counts */
 } cpay_rtcp_report_info;
 
-/** Reads report number `index`, from 0, of one datagram of RTCP: sender reports and receiver reports count together. `full` is as for
- * cpay_read_requests. CPAY_NONE: the datagram has no report with this index. CPAY_RTCP_HEADER_TOO_SHORT to CPAY_RTCP_FIR_LENGTH: not a
- * compound RTCP packet. Does not allocate. */
-CPAY_CHECKED cpay_status cpay_read_report(const uint8_t *rtcp, size_t rtcp_len, bool full, size_t index, cpay_rtcp_report_info *report);
+/** Reads report number `index`, from 0, of one datagram of RTCP: sender reports and receiver reports count together. `full` is as
+ * for cpay_read_requests. CPAY_NONE: the datagram has no report with this index. CPAY_RTCP_HEADER_TOO_SHORT to
+ * CPAY_RTCP_FIR_LENGTH: not a compound RTCP packet. Does not allocate. */
+CPAY_CHECKED cpay_status cpay_read_report(const uint8_t *rtcp, size_t rtcp_len, bool full, size_t index,
+                                          cpay_rtcp_report_info *report);
 
 /** Reads block number `place`, from 0, of report number `index`. CPAY_NONE: there is no such report, or it has fewer blocks. Other
  * statuses are those of cpay_read_report. Does not allocate. */
 CPAY_CHECKED cpay_status cpay_read_report_block(const uint8_t *rtcp, size_t rtcp_len, bool full, size_t index, size_t place,
                                                 cpay_report_block_info *block);
 
-/** Writes a sender report to the output buffer, and its size to *size: 28 bytes, and 24 for each of its blocks, at most 31. The fields
- * are those of cpay_sender_report or cpay_forwarder_report, and `ntp_time` is the same moment: seconds since 1900 in the upper 32 bits,
- * fractions of a second in the lower 32 bits. It has no padding: packets that you write one after another are a compound packet (RFC
- * 3550, section 6.1), which begins with a report and has a name. CPAY_TOO_SMALL: *size is written. CPAY_INVALID: more than 31 blocks, or
- * `cumulative_lost` above 24 bits. [m] */
+/** Writes a sender report to the output buffer, and its size to *size: 28 bytes, and 24 for each of its blocks, at most 31. The
+ * fields are those of cpay_sender_report or cpay_forwarder_report, and `ntp_time` is the same moment: seconds since 1900 in the
+ * upper 32 bits, fractions of a second in the lower 32 bits. It has no padding: packets that you write one after another are a
+ * compound packet (RFC 3550, section 6.1), which begins with a report and has a name. CPAY_TOO_SMALL: *size is written.
+ * CPAY_INVALID: more than 31 blocks, or `cumulative_lost` above 24 bits. [m] */
 CPAY_CHECKED cpay_status cpay_write_sender_report(uint64_t ntp_time, const cpay_sender_report_info *report,
                                                   const cpay_report_block_info *blocks, size_t blocks_len, uint8_t *bytes,
                                                   size_t bytes_len, size_t *size);
@@ -1698,13 +1734,14 @@ CPAY_CHECKED cpay_status cpay_write_sender_report(uint64_t ntp_time, const cpay_
 CPAY_CHECKED cpay_status cpay_write_receiver_report(uint32_t ssrc, const cpay_report_block_info *blocks, size_t blocks_len,
                                                     uint8_t *bytes, size_t bytes_len, size_t *size);
 
-/** Writes a source description with the canonical name (CNAME) of a source (RFC 3550, section 6.5) to the output buffer, and its size
- * to *size. CPAY_TOO_SMALL: *size is written. CPAY_INVALID: the name has more than 255 bytes. [m] */
+/** Writes a source description with the canonical name (CNAME) of a source (RFC 3550, section 6.5) to the output buffer, and its
+ * size to *size. CPAY_TOO_SMALL: *size is written. CPAY_INVALID: the name has more than 255 bytes. [m] */
 CPAY_CHECKED cpay_status cpay_write_cname(uint32_t ssrc, const uint8_t *cname, size_t cname_len, uint8_t *bytes, size_t bytes_len,
                                           size_t *size);
 
-/** Writes a PLI, which asks the sender of the stream `media_ssrc` for a keyframe (RFC 4585, section 6.3.1), to the output buffer, and
- * its size to *size: 12 bytes. With a session call cpay_session_request_keyframe instead. CPAY_TOO_SMALL: *size is written. [m] */
+/** Writes a PLI, which asks the sender of the stream `media_ssrc` for a keyframe (RFC 4585, section 6.3.1), to the output buffer,
+ * and its size to *size: 12 bytes. With a session call cpay_session_request_keyframe instead. CPAY_TOO_SMALL: *size is written. [m]
+ * */
 CPAY_CHECKED cpay_status cpay_write_pli(uint32_t sender_ssrc, uint32_t media_ssrc, uint8_t *bytes, size_t bytes_len, size_t *size);
 
 /* ---- A depacketizer alone, for callers that order packets themselves ---- */
@@ -1727,8 +1764,8 @@ typedef struct {
  * cpay_depacketizer_clear. Nothing is copied. */
 CPAY_CHECKED cpay_status cpay_depacketizer_unit(cpay_depacketizer *depacketizer, cpay_lent_unit *unit);
 
-/** Begins the next unit: forgets the bytes and the codec-specific data so far, and keeps their memory. What continues in a stream stays:
- * ids of VP8 and VP9, the beginning of an OBU of AV1. */
+/** Begins the next unit: forgets the bytes and the codec-specific data so far, and keeps their memory. What continues in a stream
+ * stays: ids of VP8 and VP9, the beginning of an OBU of AV1. */
 CPAY_CHECKED cpay_status cpay_depacketizer_clear(cpay_depacketizer *depacketizer);
 
 /** Copies the unit to a buffer of yours, and begins the next unit: both calls above in one, for a caller who keeps the bytes. */

@@ -166,12 +166,15 @@ public:
 /** Packets of one source after another in, the packets of one stream of a viewer out. */
 class forwarder : public handle<cpay_forwarder, cpay_forwarder_free> {
 public:
-    [[nodiscard]] cpay_status make(const cpay_forwarder_settings &settings) noexcept { return cpay_forwarder_new(get(), &settings); }
+    [[nodiscard]] cpay_status make(const cpay_forwarder_settings &settings) noexcept {
+        return cpay_forwarder_new(get(), &settings);
+    }
     [[nodiscard]] cpay_status want(std::uint32_t ssrc) noexcept { return cpay_forwarder_want(get(), ssrc); }
     [[nodiscard]] cpay_status mute() noexcept { return cpay_forwarder_mute(get()); }
     [[nodiscard]] cpay_status source(std::uint32_t &ssrc) noexcept { return cpay_forwarder_source(get(), &ssrc); }
     [[nodiscard]] cpay_status wanted(std::uint32_t &ssrc) noexcept { return cpay_forwarder_wanted(get(), &ssrc); }
-    [[nodiscard]] cpay_status write(std::uint64_t now, bytes datagram, room to, std::size_t &size, cpay_forwarded &forwarded) noexcept {
+    [[nodiscard]] cpay_status write(std::uint64_t now, bytes datagram, room to, std::size_t &size,
+                                    cpay_forwarded &forwarded) noexcept {
         return cpay_forwarder_write(get(), now, datagram.data(), datagram.size(), to.data(), to.size(), &size, &forwarded);
     }
     /** The same into memory that grows as needed. It is empty if nothing was written. */
@@ -187,7 +190,8 @@ public:
         std::size_t size = 0;
         return to.fill(size, [&](room it) { return leave_out(datagram, it, size, forwarded); });
     }
-    [[nodiscard]] cpay_status resend(history &store, std::uint16_t number, room to, std::size_t &size, cpay_resent &resent) noexcept {
+    [[nodiscard]] cpay_status resend(history &store, std::uint16_t number, room to, std::size_t &size,
+                                     cpay_resent &resent) noexcept {
         return cpay_forwarder_resend(get(), store.get(), number, to.data(), to.size(), &size, &resent);
     }
     /** The same into memory that grows as needed. It has the packet with CPAY_RESENT_WRITTEN, and is empty otherwise. */
@@ -281,7 +285,8 @@ public:
 
 /** A sender report: see cpay_write_sender_report. */
 [[nodiscard]] inline cpay_status write_sender_report(std::uint64_t ntp_time, const cpay_sender_report_info &report,
-                                                     view<const cpay_report_block_info> blocks, room to, std::size_t &size) noexcept {
+                                                     view<const cpay_report_block_info> blocks, room to, std::size_t &size) noexcept
+                                                     {
     return cpay_write_sender_report(ntp_time, &report, blocks.data(), blocks.size(), to.data(), to.size(), &size);
 }
 
@@ -297,7 +302,8 @@ public:
 }
 
 /** A PLI: see cpay_write_pli. */
-[[nodiscard]] inline cpay_status write_pli(std::uint32_t sender_ssrc, std::uint32_t media_ssrc, room to, std::size_t &size) noexcept {
+[[nodiscard]] inline cpay_status write_pli(std::uint32_t sender_ssrc, std::uint32_t media_ssrc, room to,
+                                           std::size_t &size) noexcept {
     return cpay_write_pli(sender_ssrc, media_ssrc, to.data(), to.size(), &size);
 }
 
@@ -328,7 +334,9 @@ public:
         std::size_t size = 0;
         return to.fill(size, [&](room it) { return poll(now, it, size); });
     }
-    [[nodiscard]] cpay_status next_deadline(std::uint64_t &at) noexcept { return cpay_transport_reporter_next_deadline(get(), &at); }
+    [[nodiscard]] cpay_status next_deadline(std::uint64_t &at) noexcept {
+        return cpay_transport_reporter_next_deadline(get(), &at);
+    }
     [[nodiscard]] cpay_status restart() noexcept { return cpay_transport_reporter_restart(get()); }
 };
 
@@ -424,6 +432,9 @@ public:
     [[nodiscard]] cpay_status set_wait_limits(std::uint32_t ssrc, std::uint8_t payload_type,
                                               const cpay_wait_limits &limits) noexcept {
         return cpay_session_set_wait_limits(get(), ssrc, payload_type, &limits);
+    }
+    [[nodiscard]] cpay_status set_round_trip(std::uint32_t ssrc, std::uint8_t payload_type, std::uint64_t round_trip) noexcept {
+        return cpay_session_set_round_trip(get(), ssrc, payload_type, round_trip);
     }
     [[nodiscard]] cpay_status add_pair(std::uint32_t ssrc, std::uint32_t retransmission) noexcept {
         return cpay_session_add_pair(get(), ssrc, retransmission);

@@ -56,8 +56,9 @@ bool cpay_av1_is_keyframe(const uint8_t *payload, size_t payload_len);   /**< wh
 CPAY_CHECKED cpay_status cpay_is_head(cpay_codec codec, const uint8_t *payload, size_t payload_len, bool *is_head);
 CPAY_CHECKED cpay_status cpay_is_tail(cpay_codec codec, bool marker, const uint8_t *payload, size_t payload_len, bool *is_tail);
 
-/** Reports whether a payload is the first packet of a keyframe, so that a viewer can begin with it. A forwarder begins with the same
- * packets: see cpay_forwarder_write, which has them by codec. For codecs of audio each packet is one. CPAY_INVALID: unsupported codec. */
+/** Reports whether a payload is the first packet of a keyframe, so that a viewer can begin with it. A forwarder begins with the
+ * same packets: see cpay_forwarder_write, which has them by codec. For codecs of audio each packet is one. CPAY_INVALID:
+ * unsupported codec. */
 CPAY_CHECKED cpay_status cpay_begins_keyframe(cpay_codec codec, const uint8_t *payload, size_t payload_len, bool *begins);
 
 /** The temporal layer of a packet. */
@@ -67,8 +68,8 @@ typedef struct {
                      higher layer */
 } cpay_temporal_layer_info;
 
-/** Reads the temporal layer of a payload of VP8 (RFC 7741, section 4.2) or VP9 (RFC 9628, section 4.2). A server leaves packets out by
- * it: see cpay_forwarder_leave_out. CPAY_NONE: the payload names no layer, or the codec is another one. */
+/** Reads the temporal layer of a payload of VP8 (RFC 7741, section 4.2) or VP9 (RFC 9628, section 4.2). A server leaves packets out
+ * by it: see cpay_forwarder_leave_out. CPAY_NONE: the payload names no layer, or the codec is another one. */
 CPAY_CHECKED cpay_status cpay_temporal_layer(cpay_codec codec, const uint8_t *payload, size_t payload_len,
                                              cpay_temporal_layer_info *layer);
 

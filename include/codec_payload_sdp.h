@@ -211,9 +211,9 @@ typedef struct {
     cpay_sdp_error error;
 } cpay_sdp_fault;
 
-/** Reads all `m=` sections of a description of `text_len` bytes into `media`, in order, and writes their number to *count. Lines end
- * with LF or CRLF. Attributes that the library does not need are ignored, as are attributes of a payload type that the `m=` line does
- * not have. `media` points into the text. Cost: reads the text four times.
+/** Reads all `m=` sections of a description of `text_len` bytes into `media`, in order, and writes their number to *count. Lines
+ * end with LF or CRLF. Attributes that the library does not need are ignored, as are attributes of a payload type that the `m=`
+ * line does not have. `media` points into the text. Cost: reads the text four times.
  *
  * CPAY_INVALID: a line is malformed; *fault has its number and the reason. CPAY_TOO_SMALL: `media_len` is too small; *count is the
  * number of sections. If the call fails, all else is unchanged. */
@@ -223,9 +223,10 @@ CPAY_CHECKED cpay_status cpay_sdp_read(const char *text, size_t text_len, cpay_s
 /** Reads the groups in front of the first `m=` section into `groups`, in order, and writes their number to *count. Other lines are
  * ignored: cpay_sdp_read finds what is wrong with them. `groups` points into the text.
  *
- * CPAY_INVALID: a group is malformed; *fault has its line. CPAY_TOO_SMALL: `groups_len` is too small; *count is the number of groups.
- * If the call fails, all else is unchanged. */
-CPAY_CHECKED cpay_status cpay_sdp_groups(const char *text, size_t text_len, cpay_sdp_group *groups, size_t groups_len, size_t *count,
+ * CPAY_INVALID: a group is malformed; *fault has its line. CPAY_TOO_SMALL: `groups_len` is too small; *count is the number of
+ * groups. If the call fails, all else is unchanged. */
+CPAY_CHECKED cpay_status cpay_sdp_groups(const char *text, size_t text_len, cpay_sdp_group *groups, size_t groups_len,
+                                         size_t *count,
                                          cpay_sdp_fault *fault);
 
 /** Returns the format of a payload type, or NULL if the section has none. */
@@ -237,8 +238,8 @@ const cpay_sdp_format *cpay_sdp_format_of(const cpay_sdp_media *media, uint8_t p
  * - Wait limits: for live audio or video, with retransmission if `a=rtcp-fb` has nack for the payload type.
  * - RED: the RED format over the payload type, or one that names no payload type. The step is `a=ptime`, 20 ms by default, in ticks
  *   of the RTP clock, 1 to 16383. If a format of RTX has the payload type of RED as `apt`, retransmitted RED is set too.
- * - If the section has exactly one SSRC of media, it is the SSRC of the stream. If it has retransmissions, and a format of RTX has the
- *   payload type as `apt`, they are set too.
+ * - If the section has exactly one SSRC of media, it is the SSRC of the stream. If it has retransmissions, and a format of RTX has
+ *   the payload type as `apt`, they are set too.
  * - Ids of header extensions, with `dependency_descriptor`.
  *
  * CPAY_INVALID: the section has no media of this payload type. */

@@ -11,8 +11,8 @@
 # the assembly also with the address and undefined-behaviour sanitizers, over jemalloc and mimalloc, and for AArch64 by qemu.
 # The header for C++ (c/tests/plus.cpp). The ABI (packaging/abi.sh). If there is cargo: scripts of payload_vectors through each library,
 # compared byte for byte with the program over the generated Rust crate (c/tests/vectors.c, c/tests/inputs.py, tools/lines); the calls beside
-# those of the crate (tools/twin); and changed session descriptions read by c/src/sdp.c and by the crate. The installed files
-# (install_test.sh).
+# those of the crate (tools/twin); and changed session descriptions read by c/src/sdp.c and by the crate. If there is Go: the example in
+# Go (examples/go). The installed files (install_test.sh).
 #
 # Needs a C compiler ($CC or cc) with its sanitizers, make, binutils and Python 3; for tools/lines and tools/twin cargo; for the
 # installed files pkg-config and a C++ compiler; for AArch64 gcc-aarch64-linux-gnu and qemu-user. No network. Without rt the
@@ -170,10 +170,15 @@ if command -v cargo >/dev/null; then
     done
     twin="$twin; session descriptions in C and Rust"
 fi
+go="without Go, so without examples/go"
+if command -v go >/dev/null; then
+    step sh -c 'cd examples/go && test -z "$(gofmt -l .)" && GOFLAGS=-mod=mod GOPROXY=off CGO_ENABLED=1 go test -count=1 .'
+    go="the example in Go"
+fi
 step packaging/abi.sh
 abi=$(tail -n 1 "$work/log")
 step packaging/install_test.sh
 installed=$(tail -n 1 "$work/log" | sed "s/: all passed$//")
 
-echo "C: $assembly; the headers, the tests with and without sanitizers, over $allocators; $proved; $arm; $abi; $twin; $installed:" \
+echo "C: $assembly; the headers, the tests with and without sanitizers, over $allocators; $proved; $arm; $go; $abi; $twin; $installed:" \
     "all passed"

@@ -6,12 +6,14 @@
   scripts/documents.py --wrap FILE..   wraps each paragraph of these pages, or of all pages, that has a line of more than 128
                                        characters
 
-Each relative link, each anchor and each named page exists; README.md has at most 170 lines; no line outside of code and
-tables is longer than 128 characters; docs/develop/ARCHITECTURE.md lists the crates of crates.txt; the version is the
-same everywhere; toolchain.txt has the line of `rt version`, and no page names a kit; each line of figures in
-README.md is in docs/use/PERFORMANCE.md; each picture is shown by a page, is light, and is of today's data; docs/develop/DIFFERENCES.md
-names each theorem of the ported crates; each name in docs/use/GLOSSARY.md is in a source; docs/proof/VERIFICATION.md has the lemma of
-each guarantee and the numbers of tools/measure/count_lines.sh. Each block of code has a language, which decides its test:
+Each relative link, each anchor and each named page exists; README.md has at most 170 lines, and 500 words in front of "Read
+on"; no line outside of code and tables is longer than 128 characters; docs/develop/ARCHITECTURE.md lists the crates of
+crates.txt; the version is the same everywhere; toolchain.txt has the line of `rt version`, and no page names a kit; each line
+of figures in README.md is in docs/use/PERFORMANCE.md; each picture is shown by a page, is light, and is of today's data;
+docs/develop/DIFFERENCES.md names each theorem of the ported crates; each name in code type on the pages of what is proved is
+in a public statement; each name in docs/use/GLOSSARY.md is in a source; docs/proof/VERIFICATION.md has the lemma of each
+guarantee and the numbers of tools/measure/count_lines.sh.
+Each block of code has a language, which decides its test:
 
   c        compiled; linked and run if the library is built (`make`)
   rust     built by cargo over rust/, and run
@@ -19,9 +21,11 @@ each guarantee and the numbers of tools/measure/count_lines.sh. Each block of co
   antt     is, word for word, in the definitions of a crate
   text     is an input or an output of a program, which its own tests run; or a picture of names in the sources;
            or lines of fields, whose bits are whole bytes
+  python   is, word for word, in an example of python/, or a whole program that runs there (scripts/python.sh)
+  toml     is TOML, and the features in it are those of rust/Cargo.toml
   sh       each command is run here, or by the script of scripts/test.sh that is listed below beside it
 
-Needs a C compiler, $CC or cc; cargo of 1.88 or later for blocks in Rust; rt to start a crate. The last line says what
+Needs a C compiler, $CC or cc; cargo of 1.85 or later for blocks in Rust; rt to start a crate. The last line says what
 passed; the status is 0 if all did.
 """
 import glob
@@ -32,6 +36,7 @@ import subprocess
 import sys
 import tempfile
 import textwrap
+import tomllib
 
 import mutants
 import pictures as drawn
@@ -45,7 +50,10 @@ import program_vectors  # noqa: E402
 LIBRARY = f"{ROOT}/c/out"
 WIDTH = 128
 README_LINES = 170
+README_WORDS = 500
 PICTURE_BYTES = 80_000
+# The pages that say what is proved, and name only what public statements have.
+STATED = [f"docs/proof/{it}.md" for it in ("PROMISES", "FORWARDED", "SESSIONS", "CONTRACTS")]
 # Pictures of a screen, which a test takes (tools/live_server/test.py).
 SHOTS = ["live_server.webp"]
 FENCE = re.compile(r"^( *)```(.*)$")
@@ -70,6 +78,8 @@ RUN_ELSEWHERE = {
     "scripts/try.sh": ("scripts/rust.sh", "scripts/try.sh"),
     "scripts/theorem.py": ("scripts/test.sh", "runs scripts/theorem.py"),
     "scripts/statements.py": ("scripts/test.sh", "runs scripts/statements.py"),
+    "scripts/statement_plants.py": ("scripts/test.sh", "runs scripts/statement_plants.py"),
+    "scripts/memory_lint.py": ("scripts/test.sh", "runs scripts/memory_lint.py"),
     "scripts/refuse.sh": ("scripts/test.sh", "runs scripts/refuse.sh"),
     "tools/measure/allocations.sh": ("scripts/test.sh", "runs tools/measure/allocations.sh"),
     "tools/measure/instructions.sh": ("scripts/test.sh", "runs tools/measure/instructions.sh"),
@@ -103,13 +113,23 @@ RUN_ELSEWHERE = {
     "cargo run": ("scripts/documents.py", '"cargo", "run"'),
     "cargo add --path": ("scripts/documents.py", '"cargo", "add"'),
     "scripts/rust.sh": ("scripts/test.sh", "runs scripts/rust.sh"),
+    "scripts/targets.sh": ("scripts/test.sh", "runs scripts/targets.sh"),
+    "scripts/python.sh": ("scripts/test.sh", "runs scripts/python.sh"),
+    "pip install ./python": ("scripts/python.sh", "-m pip wheel"),
     "tools/eraser/erase.py": ("scripts/rust.sh", "tools/eraser/erase.py"),
+    "tools/plain_mutants.py": ("scripts/rust.sh", "tools/plain_mutants.py"),
+    "cd tools/models": ("scripts/rust.sh", "tools/models/target/release/models"),
     "tools/eraser/plants.py": ("scripts/rust.sh", "tools/eraser/plants.py"),
     "tools/rtp_record/install.sh": ("scripts/test.sh", "tools/rtp_record/install.sh"),
     "tools/rtp_record/rtp_record": ("scripts/test.sh", "runs tools/rtp_record/test.sh"),
     "./install.sh": ("scripts/test.sh", "tools/rtp_record/install.sh"),
     "./rtp_record": ("scripts/test.sh", "runs tools/rtp_record/test.sh"),
     "./live_server": ("tools/live_server/test.py", '"live_server"'),
+    "make -C tools/gstreamer": ("scripts/test.sh", "make -s -C tools/gstreamer"),
+    "tools/gstreamer/install.sh": ("scripts/test.sh", "tools/gstreamer/install.sh"),
+    "export GST_PLUGIN_PATH": ("tools/gstreamer/test.sh", "export GST_PLUGIN_PATH"),
+    "gst-inspect-1.0": ("tools/gstreamer/test.sh", "gst-inspect-1.0"),
+    "gst-launch-1.0": ("tools/gstreamer/tests/pipelines.py", "gst-launch-1.0"),
     "make -C ../..": ("packaging/install_test.sh", "make"),
     "cd crates/": ("tests/vectors/process.py", '["rt", "run"]'),
     "cd tools/lines": ("tests/vectors/process.py", "cwd=LINES"),
@@ -208,6 +228,10 @@ def lines(pages):
     count = read("README.md").count("\n")
     if count > README_LINES:
         yield f"README.md has {count} lines, and not {README_LINES} at most"
+    first = re.sub(r"\]\([^)]*\)", "]", read("README.md").split("## Read on")[0])
+    words = len(re.findall(r"[A-Za-z0-9][\w'.,:/&-]*", first))
+    if words > README_WORDS:
+        yield f"README.md has {words} words in front of \"Read on\", and not {README_WORDS} at most"
 
 
 def crate_table():
@@ -255,7 +279,7 @@ def additions():
 
 
 def figures():
-    rows = [it for it in read("README.md").split("\n") if re.match(r"\| `[a-z0-9-]+` \| \d", it)]
+    rows = [it for it in read("README.md").split("\n") if re.match(r"\| [^|]+ \| \d[\d,.]* \|", it)]
     for row in rows:
         if row not in read("docs/use/PERFORMANCE.md").split("\n"):
             yield f"README.md: docs/use/PERFORMANCE.md has no row {row}"
@@ -306,6 +330,21 @@ def lemmas():
         for name in re.findall(r"`(\w+)`", names):
             if not any(re.search(rf"^(?:(?:abbrev |unfoldable |pub |record |data )*| +pub ){name} ", it, re.M) for it in texts):
                 yield f"docs/proof/VERIFICATION.md: {file} has no {name}"
+
+
+def not_stated(page, text):
+    """The names of a text about what is proved that no public statement has. `history_` stands for names with this beginning."""
+    stated = {it for path in glob.glob(f"{ROOT}/docs/proof/statements/*.txt") for it in re.findall(r"\w+", read(path))}
+    known = stated | set(re.findall(r"\bCPAY_\w+", read("include/codec_payload.h")))
+    for name in sorted(set(re.findall(r"`([A-Za-z_]\w*)`", text))):
+        if name not in known and not (name.endswith("_") and any(it.startswith(name) for it in stated)):
+            yield f"{page}: no public statement has {name}"
+
+
+def cited():
+    """Each name in code type on a page that says what is proved is in a public statement."""
+    for page in STATED:
+        yield from not_stated(page, "\n".join(line for _, line in blocks_and_rest(page)[1]))
 
 
 def mutant_results():
@@ -418,11 +457,27 @@ def tested_text(block):
     return f"no source has {', '.join(missing)}" if missing else ""
 
 
+def tested_python(block):
+    """A program is run by python/tests/test_documents.py; all else is part of an example."""
+    if re.match(r"(from|import) ", block.text):
+        return "" if block.page == "docs/use/PYTHON.md" else "python/tests/test_documents.py runs programs of docs/use/PYTHON.md alone"
+    return "" if stands_in(block, glob.glob("python/examples/*.py", root_dir=ROOT)) else "is in no example"
+
+
+def tested_toml(block):
+    """The dependency on the crate names features that it has."""
+    features = tomllib.loads(read("rust/Cargo.toml"))["features"]
+    named = tomllib.loads(block.text)["dependencies"]["codec-payload"]["features"]
+    return "".join(f"the crate has no feature {it}" for it in named if it not in features)
+
+
 def tested_sh(block):
     """Each command of a block is one that is run here, or that the listed file runs."""
-    for line in block.text.split("\n"):
+    for line in block.text.replace("\\\n", " ").split("\n"):
         bare = re.sub(r"(^|\s)#.*", "", line).strip().strip("()")
-        for command in filter(None, (it.strip() for it in re.split(r"&&|;|\|", bare))):
+        # A pipeline is one command: its | and ; are GStreamer's.
+        commands = [bare] if bare.startswith("gst-launch-1.0") else re.split(r"&&|;|\|", bare)
+        for command in filter(None, (it.strip() for it in commands)):
             if command in RUN_HERE:
                 continue
             begins = [it for it in RUN_ELSEWHERE if command == it or command.startswith(it)]
@@ -433,7 +488,7 @@ def tested_sh(block):
                 return f"{path} does not run: {command}"
             script = re.sub(r"^\w+=\S+ ", "", command).split()[0]
             folder = os.path.dirname(block.page)
-            aim = os.path.join(ROOT, folder if folder in ("tools/rtp_record", "tools/live_server") else "", script)
+            aim = os.path.join(ROOT, folder if folder in ("tools/rtp_record", "tools/live_server", "tools/gstreamer") else "", script)
             is_built = script.endswith(("/rtp_record", "/live_server")) or script.startswith("c/out/")
             if "/" in script and not is_built and not os.path.exists(aim):
                 return f"there is no {script}"
@@ -448,6 +503,8 @@ def blocks(pages, quick):
         "rattle": lambda it, _: "" if stands_in(it, files(".rt")) else "stands in no source",
         "antt": lambda it, _: "" if stands_in(it, files(".antt")) else "stands in no definition",
         "text": lambda it, _: tested_text(it),
+        "python": lambda it, _: tested_python(it),
+        "toml": lambda it, _: tested_toml(it),
         "sh": lambda it, _: tested_sh(it),
     }
     with tempfile.TemporaryDirectory() as work:
@@ -529,7 +586,7 @@ def main(words):
     pages = files(".md")
     wrong = [
         *links(pages), *named_pages(), *lines(pages), *crate_table(), *versions(), *toolchain(), *additions(), *figures(),
-        *pictures(pages), *glossary(), *lemmas(), *counted_lines(), *mutant_results(), *blocks(pages, quick),
+        *pictures(pages), *glossary(), *lemmas(), *cited(), *counted_lines(), *mutant_results(), *blocks(pages, quick),
     ]
     if not quick:
         wrong += [*begun_crate(), *commands(pages)]

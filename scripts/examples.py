@@ -8,7 +8,7 @@ docs/use/RECIPES.md has. The recorders write the VP8 capture of tools/rtp_record
 files must be the encoder's, by their MD5s: the frames of which every packet arrived. The stream over UDP in C is run by
 scripts/bindings.sh, all examples for Rust by scripts/rust.sh, and the examples for Rattle by rt ci.
 
-Needs make, a C compiler with sanitizers, $CC or cc, and cargo of 1.88 or later.
+Needs make, a C compiler with sanitizers, $CC or cc, and cargo of 1.85 or later.
 The last line says what passed; the status is 0 if all passed.
 """
 import hashlib

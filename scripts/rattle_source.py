@@ -142,6 +142,12 @@ def ghost_names(text):
     return {p[-1].strip(): (path, p[0].strip()) for p in pairs}
 
 
+def source_imports(text):
+    """The names that all `ghost use` of a .rt file bring: pairs of an alias and (path, name)."""
+    uses = re.findall(r'\bghost\s+use\s+([^;]*)', without_comments(text)[0])
+    return sorted({pair for use in uses for pair in ghost_names(use).items()}, key=str)
+
+
 def use_paths(text):
     """The paths of a `use`: pairs of an alias and a list of names."""
     text = text.strip()

@@ -7,8 +7,11 @@
 # - The generated files are what a fresh run of tools/eraser/erase.py writes.
 # - rustfmt, clippy and rustdoc have nothing to say, and all tests pass, with and without the feature `fallible`; the crate builds
 #   without `std`.
-# - The eraser refuses each plant of tools/eraser/plants.py.
-# - The package builds by itself, and each example ends well; docs/use/LIMITS.md and docs/use/FEEDBACK.md have the tables that examples print.
+# - The eraser refuses each plant of tools/eraser/plants.py. A test or a model notices each of tools/plain_mutants.py, and the tests that
+#   scripts/try.sh chooses notice a wrong retry time.
+# - The models of tools/models answer as the library does, for 20 seconds each.
+# - The package builds by itself, with each test and example in it, and each example ends well; docs/use/LIMITS.md and
+#   docs/use/FEEDBACK.md have the tables that examples print.
 # - No pop of a buffer takes more than 2 microseconds if packets that are no frame lie before the next frame (tools/speed).
 # - With valgrind: no datagram of a peer that chooses its numbers takes more instructions than its bound (tools/measure/rust_speed.py).
 # - The programs over lines, tools/lines: rustfmt and clippy have nothing to say, and each test vector gets its answer
@@ -43,6 +46,7 @@ crate() {
     step cargo test --quiet
     passed=$(sed -n 's/^test result: ok. \([0-9]*\) passed.*/\1/p' "$work/log" | awk '{ sum += $1 } END { print sum }')
     step "$root/scripts/try.sh" vp9
+    [ "$how" = quick ] || step "$root/scripts/try.sh" must-fail
     step cargo test --quiet --features fallible
     fallible=$(sed -n 's/^test result: ok. \([0-9]*\) passed.*/\1/p' "$work/log" | awk '{ sum += $1 } END { print sum }')
     RUSTDOCFLAGS="-D warnings" step cargo doc --quiet --no-deps
@@ -65,8 +69,17 @@ crate() {
             }
         done <"$work/log"
     done
-    [ "$how" = quick ] || step cargo package --quiet --allow-dirty
+    [ "$how" = quick ] || packaged
     echo "$passed tests, $fallible with \`fallible\`, $(ls examples/*.rs | wc -l) examples"
+}
+
+# The package builds by itself, and so does each test and example in it.
+packaged() {
+    rm -rf target/package
+    step cargo package --quiet --allow-dirty
+    for package in target/package/*/Cargo.toml; do
+        step cargo check --quiet --all-targets --manifest-path "$package"
+    done
 }
 
 # What hostile packets cost.
@@ -81,6 +94,23 @@ lines() {
     step cargo clippy --quiet --all-targets --manifest-path "$root/tools/lines/Cargo.toml" -- -D warnings
     step "$root/tests/vectors/process.py"
     echo "programs over lines: $(tail -n 1 "$work/log")"
+}
+
+# Random schedules through the library and through models that are written from the pages.
+models() {
+    step cargo fmt --check --manifest-path "$root/tools/models/Cargo.toml"
+    step cargo clippy --quiet --all-targets --manifest-path "$root/tools/models/Cargo.toml" -- -D warnings
+    step cargo build --quiet --release --manifest-path "$root/tools/models/Cargo.toml"
+    seconds=20
+    [ "$how" != quick ] || seconds=2
+    for model in buffer receiver forwarder; do
+        step "$root/tools/models/target/release/models" "$model" "$seconds"
+        cat "$work/log"
+    done
+}
+
+mutants() {
+    step "$root/tools/plain_mutants.py"
 }
 
 plants() {
@@ -101,9 +131,9 @@ how=${1:-}
 # The parts read what the eraser writes, so the eraser comes before them. In scripts/try.sh it then finds nothing to write.
 step "$root/tools/eraser/erase.py" --check
 if [ "$how" = quick ]; then
-    side_by_side crate lines speed
+    side_by_side crate lines models speed
 else
-    side_by_side crate plants fuzzing lines extras speed
+    side_by_side crate plants mutants fuzzing lines models extras speed
 fi
 # This step measures time, so no part runs beside it.
 step cargo run --quiet --release --manifest-path "$root/tools/speed/Cargo.toml" --bin orders -- spike

@@ -8,9 +8,10 @@
 # installed if that is allowed, and otherwise named before anything starts. The same applies to debhelper, lintian and doxygen;
 # without them no Debian packages and manual pages are made. Without gcc-aarch64-linux-gnu and qemu-user the library for C is
 # only tested natively; without abigail-tools its ABI is not compared; without libpcap, libavformat and ffmpeg the recorder is
-# not tested. Without ffmpeg the headers of frames are not compared with other readers; without Debian's packages of crates and
+# not tested. Without GStreamer's headers and plugins tools/gstreamer is not tested. Without ffmpeg the headers of frames are not
+# compared with other readers; without Debian's packages of crates and
 # the runtime of libFuzzer, rust-extras and tools/fuzz are not tested. Without Go, pion's interceptor and tshark no peer reads the
-# packets of transport-wide feedback again. tools/live_server is built only if its libraries are installed. Chromium is never
+# packets of transport-wide feedback again. scripts/python.sh and scripts/targets.sh say what they need, and skip what lacks it. tools/live_server is built only if its libraries are installed. Chromium is never
 # installed; without it no browser sends to a session or to live_server. The last line is `N passed, N failed`; the status is 0 if
 # nothing failed.
 set -u
@@ -99,9 +100,13 @@ runs scripts/mutants.py --stale
 runs scripts/documents.py --quick
 runs scripts/statements.py --check
 runs scripts/theorem.py --check
+runs scripts/statement_plants.py
+runs scripts/memory_lint.py
 runs c/check_header.py
 runs scripts/rust.sh
 runs scripts/toy_codec.sh
+# Old lines of mutants/RESULTS.txt are no fault, but CI says how many there are.
+echo "mutants whose counts are old or missing: $(scripts/mutants.py --missing | tail -n 1)"
 early_passed=$passed
 early_failed=$failed
 if [ "${1:-}" != --no-proofs ]; then
@@ -119,6 +124,8 @@ runs tests/vectors/feedback.py --check
 runs scripts/refuse.sh
 runs tools/measure/allocations.sh
 runs scripts/bindings.sh
+runs scripts/python.sh
+runs scripts/targets.sh
 runs scripts/documents.py
 runs scripts/examples.py
 runs tools/measure/forwarding.py
@@ -150,6 +157,16 @@ if pkg-config --exists openssl libsrtp2 libmicrohttpd libavformat libavcodec lib
     fi
 else
     echo "skipped tools/live_server: tools/live_server/install.sh installs what it needs"
+fi
+if pkg-config --exists gstreamer-rtp-1.0 2>/dev/null || [ -f /usr/include/gstreamer-1.0/gst/rtp/rtp.h ]; then
+    runs make -s -C tools/gstreamer all sanitized tests
+    if command -v gst-launch-1.0 >/dev/null && gst-inspect-1.0 vp8enc pcapparse >/dev/null 2>&1; then
+        runs tools/gstreamer/test.sh
+    else
+        echo "skipped tools/gstreamer/test.sh: tools/gstreamer/install.sh --tests installs what it needs"
+    fi
+else
+    echo "skipped tools/gstreamer: tools/gstreamer/install.sh installs what it needs"
 fi
 echo "$passed passed, $failed failed"
 [ "$failed" -eq 0 ]

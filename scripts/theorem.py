@@ -5,6 +5,10 @@
   scripts/theorem.py --check              compares them with the sources; the status is 1 if one differs
   scripts/theorem.py CRATE MODULE NAME    prints another statement: NAME is a definition of crates/CRATE/specs/MODULE.antt
   option --alone                          without the clause and the way from it to the definition
+  scripts/theorem.py --whole NAME         prints a file of docs/proof without stops, and without what it takes from other files
+
+scripts/theorem_files.py says what each file has: its statements, its words, its parts, and its stops. A stop is a definition that is
+named and not expanded: the file says what it is, how much is not shown, and the command that shows it. The rules for stops stand there.
 
 A file begins with the `ensures` clause of the public function of that crate from which NAME is reached by the fewest definitions; then
 come all definitions that the statement reaches. A record on the way from the clause to NAME is cut to the fields that lead there.
@@ -18,203 +22,58 @@ not followed, nor names in an invariant. It goes by lines and names, not by the 
 also the name of a definition counts as a use of it.
 """
 import argparse
-import glob
 import os
 import re
 import sys
+import textwrap
 
-# the notation and names of the standard library; TOLD: the names that an entry of another name explains
-STANDARD = {
-    '≡': 'a ≡ b: a and b are equal', '≢': 'a ≢ b: they are not', '⊎': 'P ⊎ Q: P or Q', '↔': 'P ↔ Q: each implies the other', '×': 'P × Q: P and Q; also pairs, with parts .0/.1 or .1/.2. (x : T) × P x: there is an x of type T with P x',
-    '→': 'P → Q: P implies Q; also functions. (x : T) → P x: for all x. Nested arrows: all premises, then the conclusion', '⊥': 'false', '⊤': 'true', 'Unit': 'Unit {0}: true; as a type of values, the type with one value', 'ℕ': 'the numbers 0, 1, 2, …',
-    'ℤ': 'whole numbers', 'Type': 'Type 0: a proposition (or a type); a record of type `Type 0` holds if all its fields hold', 'λ': 'λ x. e: the function of x', 'Bool': 'true or false', 'not': 'not, &&, ||, ==: on Bool',
-    'List': 'finite sequences: [] is empty, x ∷ xs is x before xs', '++': 'xs ++ ys: xs, then ys', 'length': 'the number of items', 'map': 'map f xs: f of each item', 'take': 'take n xs: the first n items', 'drop': 'drop n xs: without the first n',
-    'replicate': 'replicate n x: n times x', 'reverse': 'backwards', 'filter': 'the items for which it is true', 'fold': 'combines from the left', 'get_or': 'get_or d xs n: the item at n, or d', 'Option': 'None, or Some x', 'Result': 'Ok x, or Err e',
-    'is_some': 'whether it is Some', 'is_none': 'whether it is None', 'is_ok': 'whether it is Ok', 'IfOk': 'IfOk r P: if r is Ok x, then P x', 'IfErr': 'IfErr r P: if r is Err e, then P e', 'OnOk': 'OnOk r P: if r is an Ok, then P',
-    'OnErr': 'OnErr r P: if r is an Err, then P', 'IfSome': 'IfSome o P: if o is Some x, then P x', 'IsNone': 'the option is None', 'IsSome': 'it is Some', 'IsTrue': 'b ≡ true', 'IsFalse': 'b ≡ false', 'option_map': 'f of the value, if there is one',
-    'unwrap_or': 'the value, or a default', 'slice_get': 'slice_get xs n: Some of the item at n from 0, or None', 'slice_range': 'items from one index up to another', 'All': 'All P xs: P of each item', 'Contains': 'it is an item of the list',
-    'position': 'the index of the first item for which it is true, or None', 'if': 'if b then x else y', 'suc': 'n + 1', 'zero': '0', 'pred': 'n - 1, and 0 for 0', '+': 'a - b is 0 if b is greater; / rounds down; % is the remainder; ^ is power',
-    '<': 'less', '≤': 'at most', 'min': 'the smaller', 'max': 'the greater', 'bit_and': 'bitwise and', 'bit_or': 'bitwise or', 'bit_xor': 'bitwise xor', 'sum': 'of the items', 'Vec': 'a Rust vector; v.items is its list',
-    'Box': "Rust's box; b.value is what is in it", 'String': "Rust's string", 'AllocError': 'out of memory', 'refl': 'a proof of x ≡ x', 'head': 'first item', 'nat_lt': 'less, as Bool', 'nat_le': 'at most, as Bool', 'nat_eq': 'equal, as Bool',
-    'set': 'set xs n x: xs with x at n', 'any': 'whether it is true of an item', 'all': 'whether it is true of all', 'IsErr': 'it is Err', 'IsOk': 'it is Ok', 'Float': 'floating point number',}
-TOLD = set('true false && || == [] ∷ Some None Ok Err - * / % ^'.split())
-HEAD = re.compile(r"^(?:(?:abbrev|unfoldable|opaque)\s+(?:pub\s+)?|pub\s+(?!use\b|mod\b)|(?=record\s|data\s))(?:(?:abbrev|unfoldable|record|data)\s+)?([^\s:({]+)")
-TOKEN = re.compile(r"[A-Za-z_][\w'\-]*(?:\.[A-Za-z_0-9][\w'\-]*)*|◌\S*◌|[≡≢⊎×→↔⊥⊤ℕℤλ∷≤]|\[\]|\+\+|&&|\|\||==|>>=|[+*/%^<]|(?<= )-(?= )")
-WORDS = {'record', 'let', 'in', 'where', 'then', 'else', 'pub', 'data', 'abbrev', 'unfoldable', 'match', 'with'}
-
-
-class Def:
-    """A definition of a specs module, or a Rust type of a `declared` one."""
-
-    def __init__(self, module, name, kind):
-        self.module, self.name, self.kind = module, name, kind
-        self.key, self.comment, self.lines, self.imports, self.note = (module, name), [], [], {}, ''
-
-
-class Project:
-    """All specs modules, their imports, and the Rust types that `declared` modules name."""
-
-    def __init__(self, root):
-        self.root, self.defs, self.imports, self.reexports, self.rust = root, {}, {}, {}, {}
-        self.owner = {}  # (module, constructor) -> name of its data type
-        for path in sorted(glob.glob(os.path.join(root, 'crates/*/specs/**/*.antt'), recursive=True)):
-            crate, inner = re.search(r'crates/([^/]+)/specs/(.+)\.antt$', path).groups()
-            self.read(f"{crate}.{inner.replace('/', '.')}", open(path, encoding='utf-8').read())
-        self.sources = {p: open(p, encoding='utf-8').read() for p in sorted(glob.glob(os.path.join(root, 'crates/*/src/**/*.rt'), recursive=True))}
-
-    def import_line(self, line, imports):
-        """Reads a `use` line: names to (module, name), and aliases of modules to (module, '*')."""
-        m = re.match(r'(?:ghost )?(?:pub )?use ([\w.]+?)(?:\.\{(.*)\}| as (\w+))?;?$', line.strip())
-        if not m:
-            return None
-        module, names, alias = m.groups()
-        m2 = re.match(r'Rattle\.(\w+)\.specs\.(.+)$', module)
-        module = f'{m2.group(1)}.{m2.group(2)}' if m2 else 'std.' + module
-        if alias:
-            imports[alias] = (module, '*')
-        for n in re.split(r',\s*', names or ''):
-            a, _, b = n.strip().partition(' as ')
-            if a:
-                imports[b or a] = (module, a)
-        return module
-
-    def read(self, module, text):
-        """Splits a module in definitions, each with the comment lines directly before it."""
-        imports, comment, now, fixity = {}, [], None, []
-        self.imports[module] = imports
-        for line in text.split('\n'):
-            if re.match(r'(pub )?use ', line):
-                got = self.import_line(line, imports)
-                if got and line.startswith('pub use'):
-                    self.reexports.setdefault(module.split('.')[0], []).append(got)
-                now = None
-            elif line.startswith('--'):
-                comment.append(line)
-            elif line.startswith('infix'):
-                fixity = [line]
-            elif HEAD.match(line):
-                now = Def(module, HEAD.match(line).group(1), 'data' if re.search(r'\bdata\b', line.split(':')[0]) else 'record' if re.search(r'\brecord\b', line.split(':')[0]) else 'def')
-                now.comment, now.lines, now.imports = comment, fixity + [line], imports
-                self.defs[now.key], comment, fixity = now, [], []
-            elif not line.strip():
-                comment = []
-            elif now is not None and not line.startswith('pub mod'):
-                now.lines += comment + [line]
-                comment = []
-                if now.kind == 'data' and re.match(r"\s+[\w'\-]+ :", line):
-                    self.owner[(module, line.split()[0])] = now.name
-
-    def find(self, module, name):
-        """The definition or Rust type that a name of a module stands for, or None for the standard library."""
-        if '.declared.' in module:
-            return self.rust_type(module.removesuffix('.TheVariants'))
-        seen = set()
-        while (module, name) not in seen:
-            seen.add((module, name))
-            name_of = self.owner.get((module, name), name)
-            if (module, name_of) in self.defs:
-                return self.defs[(module, name_of)]
-            if module in self.imports and name in self.imports[module]:
-                module, name = self.imports[module][name]
-            else:
-                crate, _, inner = module.partition('.')
-                for target in self.reexports.get(crate, []):
-                    if target.partition('.')[2] == inner:
-                        module = target
-        return None
-
-    def rust_type(self, module):
-        """The struct or enum of a `declared` module crate.declared.path.Type, with the value that stands for it and its invariant."""
-        if module in self.rust:
-            return self.rust[module]
-        crate, path, name = re.match(r'(\w+)\.declared\.(.+)\.(\w+)$', module).groups()
-        text = self.sources.get(os.path.join(self.root, 'crates', crate, 'src', path.replace('.', '/') + '.rt'))
-        self.rust[module] = None
-        m = text and re.search(r'^(?:pub(?:\([a-z]+\))? )?(?:struct|enum) %s\b.*?(?:^\}|;$|\}$)' % name, text, re.M | re.S)
-        if not m:
-            return None
-        d = self.rust[module] = Def(module, name, 'rust')
-        before = text[:m.start()].rstrip('\n').split('\n')
-        while before and before[-1].startswith(('///', '#[')):
-            if before[-1].startswith('///'):
-                d.comment.insert(0, '-- ' + before[-1][3:].strip())
-            before.pop()
-        d.comment = d.comment[:d.comment.index('-- ')] if '-- ' in d.comment else d.comment
-        d.lines = [l.split('///')[0] + '-- ' + l.split('///')[1].strip() if '///' in l else l for l in m.group(0).split('\n') if not l.strip().startswith('#[')]
-        model = re.search(r'^impl(?:<[^{]*>)? Model for %s\b.*?^\}' % name, text, re.M | re.S)
-        for what, says in (('Value', 'in statements it stands for a'), ('invariant', 'invariant:')) if model else ():
-            got = re.search(r'ghost %s = \{ (.*?) \};' % what, model.group(0), re.S)
-            if got and got.group(1) != name:
-                d.lines.append(f'-- {says} {" ".join(got.group(1).split())}')
-        return d
-
-    def names(self, d, lines):
-        """The tokens of lines of a definition, each with what it stands for, or with None for the standard library."""
-        out = []
-        for line in lines:
-            code = re.split(r'(?:^|\s)--(?:\s|$)', line)[0]
-            bound = set()
-            for m in re.finditer(r"[({]([\w' \-]+?) : |λ ([\w' \-]+)\.", code):
-                bound |= set((m.group(1) or m.group(2)).split())
-            clause = re.match(r"(\S.*?) =(?: |$)", code)
-            if clause and not HEAD.match(code):
-                bound |= {t for t in re.findall(r"(?<![.\w])[a-z][\w'\-]*(?![\w.])", clause.group(1)) if d.imports.get(t, (d.module, t)) not in self.owner}
-            bound |= set(re.findall(r"(?:^|[{;]) *([a-z][\w']*) = ", code[clause.start(1) + 1:] if clause else code))
-            bound |= set(re.findall(r"^\s+(?:pub )?([\w'\-]+) :", code))
-            out += [(t, self.resolve(d, t)) for t in TOKEN.findall(code) if t.split('.')[0] not in bound | WORDS]
-        return out
-
-    def resolve(self, d, token):
-        """The definition of a token in a definition."""
-        first, _, rest = token.partition('.')
-        for name in (first, f'◌{first}◌'):
-            if name in d.imports:
-                module, inner = d.imports[name]
-                return None if module.startswith('std') and '.declared.' not in module else self.find(module, rest.split('.')[0] if inner == '*' else inner)
-            if d.kind != 'rust' and ((d.module, name) in self.defs or (d.module, name) in self.owner):
-                return self.find(d.module, name)
-        return None
-
-    def clauses(self, crate):
-        """The `ensures` clauses of the public functions of a crate, each as a Def with the text of signature and clause."""
-        for path, text in self.sources.items():
-            if f'crates/{crate}/src/' not in path:
-                continue
-            imports = {}
-            for line in re.findall(r'^\s*(ghost use .*;)$', text, re.M):
-                self.import_line(line, imports)
-            for fn in re.finditer(r'^ *pub fn (\w+).*?^ *\{$', text, re.M | re.S):
-                signature = re.split(r'^\s*(?://|ensures|requires)', fn.group(0), flags=re.M)[0].rstrip()
-                requires = re.findall(r'^ *requires.*?\}$', fn.group(0), re.M | re.S)
-                for m in re.finditer(r'ensures (?:(\w+) )?\{ (.*?) \}$', fn.group(0), re.M | re.S):
-                    d = Def(f'{crate}.{os.path.relpath(path, os.path.join(self.root, "crates", crate))}', f'{fn.group(1)}.{m.group(1) or "ensures"}', 'clause')
-                    d.lines, d.imports, d.note = signature.split('\n') + requires + ['    ' + l for l in m.group(0).split('\n')], imports, m.group(2)
-                    yield d
+from theorem_files import FILES, STOPS, words_of
+from theorem_reader import HEAD, MARK, STANDARD, TOKEN, TOLD, Project, said
 
 
 class Theorem:
     """What a statement reaches, in the order of reading."""
 
-    def __init__(self, project, crate, module, name, alone=False):
-        self.p, self.uses, self.standard, self.cut, self.opaque = project, {}, {}, {}, []
-        self.target = project.find(f'{crate}.{module}', name)
-        if not self.target:
+    def __init__(self, project, targets, alone=False, stops=None, known=None, fields=None):
+        """`targets`: (crate, module, name) of each, and the function if it is not the nearest; `stops`: keys of definitions that are not
+        expanded, each with the reason; `known`: those of other files; `fields`: by key of a record, the fields that are not shown, and why."""
+        self.p, self.uses, self.standard, self.cut, self.stops, self.known = project, {}, {}, {}, {}, known or {}
+        self.ways = [self.way_to(alone, *target) for target in targets]
+        self.target, self.stops = self.ways[0][-1], stops or {}
+        for way in self.ways:
+            for before, after in zip(way, way[1:]):
+                if before.kind == 'record':
+                    self.cut_record(before, [w[w.index(before) + 1] for w in self.ways if before in w[:-1]])
+        for key, dropped in (fields or {}).items():
+            self.cut_fields(self.p.defs[key], *dropped)
+        self.defs = self.reached([way[0] for way in self.ways])
+
+    def way_to(self, alone, crate, module, name, function=''):
+        """The shortest way from a clause of the crate to the definition."""
+        target = self.p.find(f'{crate}.{module}', name)
+        if not target:
             sys.exit(f'no definition {name} in {crate}/specs/{module}.antt')
-        self.way = [self.target] if alone else self.way_up(crate)
-        for before, after in zip(self.way, self.way[1:]):
-            if before.kind == 'record':
-                self.cut_record(before, after)
-        self.defs, stack = {}, [self.way[0]]
+        return [target] if alone else self.way_up(crate, target, function)
+
+    def reached(self, roots, without=()):
+        """What these definitions reach; `without` is not followed."""
+        got, stack = {}, list(roots)
         while stack:
             d = stack.pop()
-            if d.key not in self.defs:
-                self.defs[d.key] = d
-                stack += self.used(d)
+            if d.key not in got and d.key not in without:
+                got[d.key] = d
+                stack += [u for u in self.used(d) if u.key not in self.known or self.is_type(u) or any(u in way for way in self.ways)]
+        return got
+
+    def signature(self, d):
+        """The lines of a definition in front of its first clause or field."""
+        head = next((i for i, l in enumerate(d.lines) if re.match(r'%s(\s.*)?=( |$)' % re.escape(d.name), l) and not HEAD.match(l)), len(d.lines))
+        return [re.sub(r' where$', '', d.lines[0])] if d.kind != 'def' else d.lines[:head]
 
     def used(self, d):
         """The definitions that one uses, in the order of mention."""
         if d.key not in self.uses:
-            got, lines = {}, [d.note] if d.kind == 'clause' else self.cut.get(d.key, d.lines)
+            got, lines = {}, [d.note] if d.kind == 'clause' else self.signature(d) if d.key in self.stops else self.cut.get(d.key, d.lines)
             for t, r in self.p.names(d, lines) if d.kind != 'rust' else ():
                 if r is not None and r.key != d.key:
                     got.setdefault(r.key, r)
@@ -223,39 +82,49 @@ class Theorem:
             self.uses[d.key] = list(got.values())
         return self.uses[d.key]
 
-    def way_up(self, crate):
-        """The shortest way from a clause of the crate to the target."""
-        ways, seen = [[clause] for clause in self.p.clauses(crate)], set()
-        while ways and ways[0][-1] is not self.target:
+    def way_up(self, crate, target, function):
+        """The shortest way from a clause of the crate to the target; of this function, if it is named."""
+        ways, seen = [[clause] for clause in self.p.clauses(crate) if not function or clause.name.split('.')[0] == function], set()
+        while ways and ways[0][-1] is not target:
             way = ways.pop(0)
             more = [d for d in self.used(way[-1]) if d.key not in seen and d.module.startswith(crate)]
             seen |= {d.key for d in more}
             ways += [way + [d] for d in more]
         self.standard, self.uses = {}, {}
-        return ways[0] if ways else [self.target]
+        return ways[0] if ways else [target]
 
     def cut_record(self, d, after):
-        """Leaves only the fields of a record that lead to the next definition of the way."""
+        """Leaves only the fields of a record that lead to the next definitions of the ways."""
         keep, dropped, take = [], 0, True
         for line in d.lines:
             if re.match(r'\s+pub ', line):
-                take = any(r is after for _, r in self.p.names(d, [line]))
+                take = any(r in after for _, r in self.p.names(d, [line]))
                 dropped += not take
             keep += [line] * take
         self.cut[d.key] = keep + ([f'  -- … and {dropped} other fields'] if dropped else [])
 
+    def cut_fields(self, d, dropped, why):
+        """Leaves out these fields of a record, and names them."""
+        names = [re.match(r"\s+(?:pub )?([\w'\-]+) :", l) for l in d.lines]
+        kept = [l for l, m in zip(d.lines, names) if not m or m.group(1) not in dropped]
+        self.cut[d.key] = kept + wrapped(f'not shown: {", ".join(dropped)}. {why}', '  -- … ', '  -- ')
+
     def is_type(self, d):
         """Whether it is a type of data, not a proposition or a function."""
-        return d.kind == 'rust' or bool(re.match(r'(pub )?(record|data) \S+ : Type 0 where|(abbrev|unfoldable) (pub )?\S+ : Type 0$', d.lines[0]))
+        return d.key not in self.stops and (d.kind == 'rust' or bool(re.match(r'(pub )?(record|data) \S+ : Type 0 where|(abbrev|unfoldable) (pub )?\S+ : Type 0$', d.lines[0])))
 
     def parts(self, d):
         """The fields or constructors of a type."""
         text = '\n'.join(d.lines)
         return set(re.findall(r"^ +(?:pub )?([\w'\-]+) :", text, re.M)) if d.kind != 'rust' else set(re.findall(r'^ +(?:pub(?:\([a-z]+\))? )?(\w+)(?=[:({,]| \{)', text, re.M)) | ({'0'} if re.search(r'struct \w+(<.*?>)?\(', text) else set())
 
+    def shown_lines(self, d):
+        """The lines in which a definition speaks."""
+        return [d.note] if d.kind == 'clause' else self.signature(d) if d.key in self.stops else d.lines
+
     def spoken(self, d, types):
         """The types, among those named by a definition and inside these, of which it speaks."""
-        code = ' '.join(re.split(r'(?:^|\s)--(?:\s|$)', l)[0] for l in self.cut.get(d.key, d.lines if d.kind != 'clause' else [d.note]))
+        code = ' '.join(re.split(r'(?:^|\s)--(?:\s|$)', l)[0] for l in self.cut.get(d.key, self.shown_lines(d)))
         fields = set(re.findall(r"\.([\w'\-]+)", code)) | set(re.findall(r"[{;] *([\w'\-]+) = ", code))
         words = set(re.findall(r"(?<![\w'])[A-Za-z][\w'\-]*", code))
         self.fields, self.words = self.fields | fields, self.words | words
@@ -269,11 +138,30 @@ class Theorem:
                     stack += [u for u in self.used(t) if u.key in types]
         return out
 
-    def order(self):
-        """The definitions in the order of reading."""
-        root, done, out, self.fields, self.words = self.way[0], set(), [], set(), set()
-        types = {k for k, d in self.defs.items() if d not in self.way and self.is_type(d)}  # a statement without arguments looks like a type
-        rest = {k: [u for u in self.used(d) if u.key not in types] for k, d in self.defs.items() if k not in types}
+    def parts_of(self, parts):
+        """For each part, its definitions: the statement, then each (title, roots) of `parts` with what only it and later parts reach."""
+        roots = [[d for d in self.defs.values() if d.name in names and d.kind != 'rust'] for _, names in parts]
+        first, out, done = [way[0] for way in self.ways], [], set()
+        for i in range(len(parts) + 1):
+            later = {d.key for ds in roots[i:] for d in ds}
+            got = {k: d for k, d in self.reached(first if i == 0 else roots[i - 1], later).items() if k not in done}
+            done |= {k for k, d in got.items() if not self.is_type(d) or any(d in way for way in self.ways)}
+            out.append(got)
+        return out
+
+    def order(self, parts=()):
+        """The definitions in the order of reading, as a list for each part."""
+        done, self.fields, self.words = set(), set(), set()
+        ways = [d for way in self.ways for d in way]
+        types = {k for k, d in self.defs.items() if d not in ways and self.is_type(d)}  # a statement without arguments looks like a type
+        groups = self.parts_of(parts)
+        out = [self.order_part(group, types, done) for group in groups]
+        self.opaque = [self.defs[k] for k in sorted(types - done)]
+        return out
+
+    def order_part(self, group, types, done):
+        """The definitions of a part in the order of reading; `done` has those that were shown."""
+        out, rest = [], {k: [u for u in self.used(d) if u.key not in types and u.key in group] for k, d in group.items() if k not in types}
         reach = {}
         for k in rest:
             todo, reach[k] = [k], set()
@@ -282,12 +170,15 @@ class Theorem:
                 reach[k] |= new
                 todo += new
         waiting = {k: sum(any(u.key == k for u in us) for us in rest.values()) for k in rest}
-        stack, met = [root], [root.key]
-        while stack or any(k not in done for k in met):
-            d = stack.pop() if stack else self.defs[next(k for k in met if k not in done)]  # else a cycle
+        first = [way[0].key for way in self.ways]
+        met = sorted((k for k in rest if not waiting[k]), key=lambda k: first.index(k) if k in first else len(first))
+        stack = [self.defs[k] for k in reversed(met)]
+        while stack or any(k not in done for k in rest):
+            d = stack.pop() if stack else self.defs[next(k for k in met + list(rest) if k not in done)]  # else a cycle
             if d.key in done:
                 continue
-            for t in self.spoken(d, types) + [d]:
+            spoken = self.spoken(d, types)
+            for t in [d] + spoken if d.kind == 'clause' else spoken + [d]:
                 if t.key not in done:
                     done.add(t.key)
                     out.append(t)
@@ -297,7 +188,6 @@ class Theorem:
                 met += [u.key] if u.key not in met else []
                 ready += [u] if waiting[u.key] <= 0 and u.key not in done else []
             stack += sorted(reversed(ready), key=lambda u: -len(reach[u.key]))
-        self.opaque = [self.defs[k] for k in sorted(types - done)]
         return out
 
     def merged_names(self):
@@ -340,7 +230,7 @@ class Theorem:
 
     def text_of(self, d, merged):
         """The lines of a definition, with names of the merged file."""
-        lines = self.cut.get(d.key, d.lines)
+        lines = self.signature(d) if d.key in self.stops else self.cut.get(d.key, d.lines)
         if d.kind != 'data' and self.is_type(d):
             lines = self.cut_parts(d, lines)
         if d.kind in ('clause', 'rust'):
@@ -368,37 +258,125 @@ class Theorem:
         specs, rust = [d for d in order if d.kind not in ('rust', 'clause')], [d for d in order if d.kind == 'rust']
         return len(specs), sum(lines[d.key] for d in specs), len({d.module for d in specs}), len(rust), sum(lines[d.key] for d in rust)
 
-    def write(self):
+    def shown(self):
+        """The keys of the definitions that the file shows whole."""
+        return [k for k, d in self.defs.items() if k not in self.stops and k not in self.cut and d.kind not in ('clause', 'rust') and not self.is_type(d)]
+
+    def size_behind(self, d):
+        """How much a stop stands for: definitions and lines, types whole, and how many of these definitions the file shows nowhere."""
+        if d.key not in self.p.sizes:
+            self.p.sizes[d.key] = Theorem(self.p, [(*d.module.split('.', 1), d.name)], alone=True).defs
+        whole = self.p.sizes[d.key]
+        lines = sum(1 for e in whole.values() for l in e.lines if l.strip() and not l.strip().startswith('--'))
+        return len(whole), lines, len([k for k in whole if k not in self.defs and k not in self.known])
+
+    def stop_text(self, d):
+        """What stands in front of a stop: what it is, what is not shown, and what shows it."""
+        crate, module = d.module.split('.', 1)
+        return wrapped(f"STOP: {STOPS[f'{d.module}.{d.name}']}", '-- ■ ') + wrapped(f'Why: {self.stops[d.key]}', '-- │ ') + [
+            '-- │ It reaches %d definitions in %d lines; %d of the definitions are neither here nor in the files before.' % self.size_behind(d),
+            f'-- └ scripts/theorem.py {crate} {module} {d.name} --alone']
+
+    def definition_text(self, d, merged, order, later):
+        """A definition with what stands in front of it."""
+        if d.kind == 'clause':
+            ways = [w for w in self.ways if w[0] is d]
+            out = [f'-- THE STATEMENT: what {d.name.split(".")[0]} ({d.module.replace(".src", "/src", 1)}) ensures, proved for all arguments.']
+            out += ['-- The way to it: ' + ' → '.join(w.name for w in way[1:]) for way in ways if len(way) > 2]
+            return out + d.lines + (self.stand_ins(order) if self.ways[0] in ways else []) + ['']
+        out = said(d.comment) or ([f'-- ({d.module}; no comment in the source)'] if d.kind != 'rust' else [])
+        out += self.stop_text(d) if d.key in self.stops else []
+        below = [f'{u.name}: part {later[u.key]}' for u in self.used(d) if u.key in later]
+        return out + ['-- ↓ ' + ', '.join(below)] * bool(below) + self.text_of(d, merged) + ['']
+
+    def renamed_text(self, order):
+        """The names of the standard library that stand for another name of it, and the definitions that are named as one. An import as another
+        name that the library has, and an operator, make the file wrong."""
+        rows = []
+        for d in order:
+            for t, r in self.p.names(d, [d.note] if d.kind == 'clause' else d.lines):
+                first = t.split('.')[0]
+                module, inner = d.imports.get(first, ('', '*'))
+                if r is None and module.startswith('std.') and inner not in ('*', first):
+                    rows.append(f'-- │ {first} in {d.module}: {module.removeprefix("std.")}.{inner} of the standard library')
+                    self.p.faults += [f'{d.module}: {fault}' for fault in [self.p.doubtful_import(first, module, inner)] if fault]
+        for d in order:
+            if d.kind != 'rust' and d.name.strip('◌') in STANDARD and d.kind != 'clause':
+                rows.append(f'-- │ {d.name}: not that of the standard library, but the one of {d.module}')
+                self.p.faults += [f'{d.module} defines {d.name}, an operator of the standard library'] * ('◌' in d.name)
+        rows = list(dict.fromkeys(rows))
+        return ['-- ┌─ Names that are not what they are elsewhere', *rows, '-- └─', ''] if rows else []
+
+    def known_text(self):
+        """The definitions of other files that this one names, each with the first sentence of its comment."""
+        out = {}
+        for d in self.defs.values():
+            for u in self.used(d):
+                if u.key in self.known and u.key not in self.defs:
+                    out[u.key] = u
+        rows = []
+        for file in dict.fromkeys(self.known.values()):
+            names = sorted((u for k, u in out.items() if self.known[k] == file), key=lambda u: u.name)
+            rows += [f'-- ┌─ Names that {file}.txt explains'] * bool(names)
+            for u in names:
+                rows += wrapped(f'{u.name:<22} ' + re.split(r'(?<=[.:;]) ', ' '.join(c[3:] for c in said(u.comment)).removeprefix(MARK + ' ') + ' ')[0].rstrip(' .:;'), '-- │ ', '-- │ ' + ' ' * 23)
+            rows += ['-- └─', ''] * bool(names)
+        return rows
+
+    def front(self, words, order, counts):
+        """The lines in front: what the file is, its words, and how to read it."""
+        stops = [d.name for d in order if d.key in self.stops]
+        named = ', '.join(f'`{way[-1].name}` of {way[-1].module}' for way in self.ways)
+        out = [f'-- Generated by scripts/theorem.py from crates/*/specs. Do not edit. {named}{", with stops." if stops else ", and all that it says."}', '--']
+        for label, text in words:
+            out += wrapped(f'{label}: {text}', '-- ')
+        out += ['--'] * bool(words) + [
+            counts + ' Read from the top: what a line uses comes after it, types before it.',
+            '-- A type of Rust (`struct`, `enum`) is the one that the library has; x.f is its field f. x.old and x.new: an argument before and after the call.']
+        if any(said(d.comment) and f'-- {MARK} ' in said(d.comment)[0] for d in order):
+            out += [f'-- {MARK}: these words are from scripts/theorem_comments.txt, since the source has none.']
+        return out + (wrapped(f'Stops, named and not expanded: {", ".join(stops)}.', '-- ') if stops else [])
+
+    def write(self, words=(), parts=()):
         """The whole file."""
-        order, merged = self.order(), self.merged_names()
+        groups, merged = self.order(parts), self.merged_names()
+        order = [d for group in groups for d in group]
         counts = '-- %d definitions in %d lines, from %d modules; %d Rust types in %d lines.' % self.counts(order, merged)
-        out = [f'-- Generated by scripts/theorem.py from crates/*/specs. Do not edit. The statement `{self.target.name}` of {self.target.module}, and all that it says.',
-               counts + ' Read from the top: what a line uses comes after it, types before it.',
-               '-- A type of Rust (`struct`, `enum`) is the one that the library has; x.f is its field f. x.old and x.new: an argument before and after the call.',
-               '', '-- ┌─ Standard names']
+        out = self.front(words, order, counts)
+        out += ['', '-- ┌─ Standard names']
         out += [f'-- │ {k:<11} {v}' for k, v in STANDARD.items() if k in self.standard]
         rest = sorted(k for k in self.standard if k not in STANDARD and k not in TOLD)
         out += [f"-- │ also: {', '.join(rest)}"] if rest else []
-        out += ['-- └─', '']
-        for d in order:
-            if d.kind == 'clause':
-                out += [f'-- THE STATEMENT: what {d.name.split(".")[0]} ({d.module.replace(".src", "/src", 1)}) ensures, proved for all arguments.']
-                out += ['-- The way to it: ' + ' → '.join(w.name for w in self.way[1:])] if len(self.way) > 2 else []
-            else:
-                out += [c for c in d.comment if not c.startswith('-- ----')] or ([f'-- ({d.module}; no comment in the source)'] if d.kind != 'rust' else [])
-            out += self.text_of(d, merged) + (self.stand_ins(order) if d.kind == 'clause' else []) + ['']
+        out += ['-- └─', ''] + self.renamed_text(order) + self.known_text()
+        titles = [title for title, _ in parts]
+        later = {d.key: i + 2 for i, group in enumerate(groups[1:]) for d in group if d.name in parts[i][1]}
+        for i, group in enumerate(groups):
+            out += [f'-- ════ Part {i + 1}: {(["the statement"] + titles)[i]}', ''] if parts else []
+            for d in group:
+                out += self.definition_text(d, merged, order, {k: n for k, n in later.items() if n > i + 1})
         out += ['-- Types that are passed on, without a word of what is in them: ' + ', '.join(d.name for d in self.opaque)] if self.opaque else []
         return '\n'.join(out + [counts, ''])
 
 
+def wrapped(text, first, more='-- │ '):
+    """The text in lines of at most 132 characters."""
+    return textwrap.wrap(text, 132, initial_indent=first, subsequent_indent=more if first.strip() != '--' else first, break_long_words=False, break_on_hyphens=False)
+
+
+def theorem_of(project, name):
+    """The theorem of a file, with its stops, and without what it takes from other files."""
+    if name in project.theorems:
+        return project.theorems[name]
+    known = {}
+    for other in FILES[name].get('after', ()):
+        known = {**{k: other for k in theorem_of(project, other).shown()}, **known}
+    stops = {project.find(*stop.rsplit('.', 1)).key: why for stop, why in FILES[name].get('stops', {}).items()}
+    fields = {project.find(*record.rsplit('.', 1)).key: names for record, names in FILES[name].get('without', {}).items()}
+    project.theorems[name] = Theorem(project, FILES[name]['statements'], stops=stops, known=known, fields=fields)
+    return project.theorems[name]
+
+
 ROOT = os.path.dirname(os.path.dirname(os.path.realpath(__file__)))
-# The files, and what each states.
-FILES = {
-    "SAFETY": ("codec_payload_buffer_runs", "RunPromises", "IsSafe"),
-    "COMPLETENESS": ("codec_payload_buffer_runs", "RunPromises", "IsExact"),
-    "LOSS": ("codec_payload_buffer_runs", "RunPromises", "LosesNothingSilently"),
-    "STREAM": ("codec_payload_session_runs", "Lives", "IsAlone"),
-}
 
 
 def main():
@@ -406,15 +384,16 @@ def main():
     a = argparse.ArgumentParser(description=__doc__, formatter_class=argparse.RawDescriptionHelpFormatter)
     a.add_argument('target', nargs='*', metavar='CRATE MODULE NAME')
     a.add_argument('--alone', action='store_true')
+    a.add_argument('--whole', metavar='FILE')
     a.add_argument('--check', action='store_true')
     o = a.parse_args()
     os.chdir(ROOT)
-    if o.target:
-        sys.stdout.write(Theorem(Project('.'), *o.target, alone=o.alone).write())
+    if o.target or o.whole:
+        sys.stdout.write(Theorem(Project('.'), [o.target] if o.target else FILES[o.whole]['statements'], alone=o.alone).write())
         return 0
-    stale = 0
-    for name, target in FILES.items():
-        path, text = f'docs/proof/{name}.txt', Theorem(Project('.'), *target, alone=False).write()
+    stale, project = 0, Project('.')
+    for name, file in FILES.items():
+        path, text = f'docs/proof/{name}.txt', theorem_of(project, name).write(words_of(name), file.get('parts', ()))
         old = open(path, encoding='utf-8').read() if os.path.isfile(path) else ''
         if o.check and old != text:
             stale += 1
@@ -422,8 +401,11 @@ def main():
         if not o.check:
             with open(path, 'w', encoding='utf-8') as f:
                 f.write(text)
-    print(f'{len(FILES)} theorems, {stale} stale')
-    return 1 if stale else 0
+    faults = list(dict.fromkeys(project.faults))
+    for fault in faults:
+        print(fault)
+    print(f'{len(FILES)} theorems, {stale} stale' + f', {len(faults)} faults' * bool(faults))
+    return 1 if stale or faults else 0
 
 
 if __name__ == '__main__':

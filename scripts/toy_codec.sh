@@ -47,4 +47,8 @@ files=$(grep '^diff --git' "$root/docs/develop/toy_codec.patch" | grep -cv -e ' 
     echo "toy_codec: the patch touches $files files outside of the codec's crate"
     exit 1
 }
+grep -q "It touches $files files" "$root/docs/develop/ARCHITECTURE.md" || {
+    echo "toy_codec: docs/develop/ARCHITECTURE.md has another number than $files files"
+    exit 1
+}
 echo "toy_codec: $files files outside of the codec's crate, all passed"

@@ -692,6 +692,11 @@ cpay_status cpay_session_set_wait_limits(cpay_session *session, uint32_t ssrc, u
     return proved_cpay_session_set_wait_limits(&session->handle, ssrc, payload_type, wait_limits);
 }
 
+cpay_status proved_cpay_session_set_round_trip(cpay_handle *session, uint32_t ssrc, uint8_t payload_type, uint64_t round_trip);
+cpay_status cpay_session_set_round_trip(cpay_session *session, uint32_t ssrc, uint8_t payload_type, uint64_t round_trip) {
+    return proved_cpay_session_set_round_trip(&session->handle, ssrc, payload_type, round_trip);
+}
+
 cpay_status proved_cpay_session_add_pair(cpay_handle *session, uint32_t ssrc, uint32_t retransmission);
 cpay_status cpay_session_add_pair(cpay_session *session, uint32_t ssrc, uint32_t retransmission) {
     return proved_cpay_session_add_pair(&session->handle, ssrc, retransmission);

@@ -360,6 +360,38 @@ static void requests(void) {
     cpay_session_free(&session);
 }
 
+/* A round trip that reports measured: the second NACK leaves after 9/8 of 160 ms and 5 ms. Without one it leaves after 100 ms. */
+static void round_trips(void) {
+    cpay_session_settings settings;
+    cpay_session_settings_init(&settings, CPAY_FOR_LIVE);
+    CHECK(cpay_session_settings_feedback(&settings, 77, NAME, sizeof NAME) == CPAY_OK);
+    CHECK(settings.feedback.keyframe_interval == 100 && settings.feedback.longest_wait == 1500);
+    cpay_session_format formats[2];
+    memcpy(formats, FORMATS, sizeof formats);
+    formats[0].nack = true;
+    settings.audio.max_wait = 500;
+    for (int known = 0; known < 2; known++) {
+        cpay_session session = CPAY_INIT;
+        cpay_session_stream stream;
+        cpay_event event;
+        CHECK(cpay_session_new(&session, &settings, formats, 2, NULL, 0, NULL, 0) == CPAY_OK);
+        CHECK(cpay_session_set_round_trip(&session, 1, AUDIO, 160) == CPAY_NONE);
+        opus(&session, 0, 1, 1);
+        opus(&session, 0, 1, 2);
+        CHECK(cpay_session_set_round_trip(&session, 1, VIDEO, 7) == CPAY_NONE);
+        CHECK(cpay_session_set_round_trip(&session, 1, AUDIO, 160) == CPAY_OK);
+        if (!known) CHECK(cpay_session_set_round_trip(&session, 1, AUDIO, 0) == CPAY_OK);
+        CHECK(cpay_session_stream_at(&session, 0, &stream) == CPAY_OK && stream.has_round_trip == (known == 1));
+        CHECK(stream.round_trip == (known ? 160u : 0u));
+        CHECK(happens(&session, 0, "B1:111 U1:1 U1:2 ."));
+        opus(&session, 0, 1, 4);
+        CHECK(happens(&session, 0, ".") && deadline(&session) == 10);
+        CHECK(cpay_session_poll(&session, 10, &event) == CPAY_OK && event.kind == CPAY_EVENT_FEEDBACK);
+        CHECK(happens(&session, 10, ".") && deadline(&session) == (known ? 195u : 110u));
+        cpay_session_free(&session);
+    }
+}
+
 /* Keyframes that viewers need: one PLI in 500 ms (RFC 4585, section 6.3.1), none after a keyframe, and none without an agreement. */
 static void keyframes_for_others(void) {
     static const uint8_t delta[] = {0x10, 0x11, 0, 0, 1};
@@ -376,6 +408,7 @@ static void keyframes_for_others(void) {
     formats[1].pli = true;
     CHECK(cpay_session_settings_feedback(&settings, 77, NAME, sizeof NAME) == CPAY_OK);
     settings.feedback.has_report_interval = false;
+    settings.feedback.keyframe_interval = 500;
     settings.audio.start = settings.video.start = 0;
     CHECK(cpay_session_new(&session, &settings, formats, 2, NULL, 0, NULL, 0) == CPAY_OK);
     sent(&session, 0, marked, 1, 1, key, sizeof key);
@@ -1008,6 +1041,7 @@ static void handles(void) {
         CHECK(cpay_session_missing(&it.session, 1, AUDIO, numbers, 1, &count) == status);
         CHECK(cpay_session_wants_keyframe(&it.session, 1, AUDIO, &wants) == status);
         CHECK(cpay_session_set_wait_limits(&it.session, 1, AUDIO, &limits) == status);
+        CHECK(cpay_session_set_round_trip(&it.session, 1, AUDIO, 160) == status);
         CHECK(cpay_session_add_pair(&it.session, 1, 9) == status);
         CHECK(cpay_session_remove_pair(&it.session, 1) == status);
         CHECK(cpay_session_request_keyframe(&it.session, 1, &answer) == status && (int)answer == 7);
@@ -1037,6 +1071,7 @@ int main(void) {
     change_of_format();
     formats_that_change();
     requests();
+    round_trips();
     keyframes_for_others();
     sent_reports();
     turns();

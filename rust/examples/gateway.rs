@@ -34,7 +34,7 @@ impl Chance {
     /// True one time in `times`.
     fn one_in(&mut self, times: u32) -> bool {
         self.0 = self.0.wrapping_mul(1_664_525).wrapping_add(1_013_904_223);
-        (self.0 >> 16).is_multiple_of(times)
+        (self.0 >> 16) % times == 0
     }
 }
 

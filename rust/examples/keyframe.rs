@@ -134,7 +134,7 @@ impl Network {
                 .chance
                 .wrapping_mul(1_664_525)
                 .wrapping_add(1_013_904_223);
-            if !(self.chance >> 16).is_multiple_of(100) {
+            if (self.chance >> 16) % 100 != 0 {
                 receiver.receive_any(Ticks(now), datagram)?;
             }
         }

@@ -71,8 +71,11 @@ fn main() -> Result<(), Box<dyn std::error::Error>> {
                 ssrc,
                 (rtp_time, if is_full { Some(report.event) } else { of_this }),
             );
-            if !is_known && let Some(key) = KEYS.get(usize::from(report.event)) {
-                keys.push(char::from(*key));
+            if !is_known {
+                keys.extend(
+                    KEYS.get(usize::from(report.event))
+                        .map(|key| char::from(*key)),
+                );
             }
         }
     }

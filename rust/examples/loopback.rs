@@ -23,7 +23,7 @@ impl Chance {
     /// True one time in `times`.
     fn one_in(&mut self, times: u32) -> bool {
         self.0 = self.0.wrapping_mul(1_664_525).wrapping_add(1_013_904_223);
-        (self.0 >> 16).is_multiple_of(times)
+        (self.0 >> 16) % times == 0
     }
 }
 
@@ -42,7 +42,7 @@ impl Received {
             self.frames += 1;
             self.bytes += unit.bytes.len();
             self.gaps += u64::from(!unit.contiguous);
-            if self.frames.is_multiple_of(100) {
+            if self.frames % 100 == 0 {
                 println!(
                     "frame {}: {} bytes at RTP time {}",
                     self.frames,

@@ -89,14 +89,15 @@ impl Network {
             .chance
             .wrapping_mul(1_664_525)
             .wrapping_add(1_013_904_223);
-        (self.chance >> 16).is_multiple_of(10)
+        (self.chance >> 16) % 10 == 0
     }
 
     fn deliver(&mut self, receiver: &mut Receiver, now: u64) -> Result<(), Box<dyn Error>> {
-        for (_, datagram) in self
-            .on_the_way
-            .extract_if(.., |(arrives, _)| *arrives <= now)
-        {
+        let (arrived, later): (Vec<_>, _) = std::mem::take(&mut self.on_the_way)
+            .into_iter()
+            .partition(|(arrives, _)| *arrives <= now);
+        self.on_the_way = later;
+        for (_, datagram) in arrived {
             receiver.receive_any(Ticks(now), &datagram)?;
         }
         Ok(())

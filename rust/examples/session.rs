@@ -66,7 +66,7 @@ impl Network {
             .chance
             .wrapping_mul(1_664_525)
             .wrapping_add(1_013_904_223);
-        if !(self.chance >> 16).is_multiple_of(50) {
+        if (self.chance >> 16) % 50 != 0 {
             let at = now + 20 + u64::from((self.chance >> 8) % 10);
             self.on_the_way.insert((at, self.chance), datagram.to_vec());
         }
@@ -134,7 +134,7 @@ fn main() -> Result<(), Box<dyn Error>> {
     network.send(0, &[0x80, OPUS, 0, 1, 0, 0, 0, 1, 0, 0, 0, 99, 1]);
     for now in 0..end + 100 {
         for source in &mut sources {
-            if !now.is_multiple_of(source.interval) || now >= source.until {
+            if now % source.interval != 0 || now >= source.until {
                 continue;
             }
             source.sender.send(&Sample {

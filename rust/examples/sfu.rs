@@ -139,11 +139,11 @@ impl Sfu {
                 self.session.request_keyframe(source);
                 continue;
             };
-            if let Some(packet) = self
-                .viewer
-                .requested(number, &self.stores[source as usize - 1])
-                && self.viewer.write_again(&packet, &mut out)?
-            {
+            let store = &self.stores[source as usize - 1];
+            let Some(packet) = self.viewer.requested(number, store) else {
+                continue;
+            };
+            if self.viewer.write_again(&packet, &mut out)? {
                 self.to_viewer.send(now, &out);
             }
         }

@@ -61,6 +61,9 @@
 //! - `std` (default): [`Clock`], which turns `std::time::Instant` into [`Ticks`].
 //! - `fallible`: a call that cannot allocate returns `OutOfMemory`, and changes nothing except as it documents. Without the feature
 //!   out of memory aborts the process, as everywhere else in Rust.
+//! - `unproved-width`: the crate builds for targets whose `usize` does not have 64 bits. No proof covers such a build: all proofs
+//!   are for a `usize` of 64 bits. All tests pass on i686 and armv7, with overflow checks. Switch these on in release builds too:
+//!   `overflow-checks = true` in the profile of your program. Then an overflow that the proofs exclude for 64 bits panics.
 #![no_std]
 #![forbid(unsafe_code)]
 #![warn(missing_debug_implementations)]
@@ -74,6 +77,10 @@
     clippy::question_mark,
     clippy::redundant_pattern_matching,
     clippy::manual_find,
+    clippy::manual_flatten,
+    clippy::manual_unwrap_or,
+    clippy::manual_unwrap_or_default,
+    clippy::new_without_default,
     clippy::manual_range_contains,
     clippy::mem_replace_with_default,
     clippy::needless_question_mark,
@@ -90,8 +97,11 @@
 // An event holds its unit. A box would be one more allocation for each unit.
 #![allow(clippy::large_enum_variant)]
 
-#[cfg(not(target_pointer_width = "64"))]
-compile_error!("codec-payload is proved for a usize of 64 bits: build it for a 64-bit target");
+#[cfg(not(any(target_pointer_width = "64", feature = "unproved-width")))]
+compile_error!(
+    "codec-payload is proved for a usize of 64 bits: build it for a 64-bit target, or read docs/use/PLATFORMS.md and switch \
+     the feature `unproved-width` on"
+);
 
 extern crate alloc;
 #[cfg(feature = "std")]
@@ -122,6 +132,8 @@ pub mod contiguity;
 pub mod described;
 #[doc(hidden)]
 pub mod descriptor;
+#[doc(hidden)]
+pub mod edges;
 #[doc(hidden)]
 pub mod error;
 #[doc(hidden)]
@@ -189,6 +201,8 @@ pub mod waiting;
 mod whole;
 #[doc(hidden)]
 pub mod wire;
+#[doc(hidden)]
+pub mod xr;
 
 pub use buffer::{Depacketized, DepacketizingBuffer, PoppedUnit};
 pub use codec::{CodecDepacketizer, CodecPacketizer, Depacketizer, Packetizer};

@@ -18,10 +18,12 @@
 //! | [`congestion`] | when packets arrived, as congestion control needs it: transport-wide feedback, and REMB |
 //! | [`transport`] | the sending side of that: the numbers and times of sent packets, and what feedback reports about them |
 //! | [`ccfb`] | congestion control feedback of RFC 8888 |
+//! | [`xr`] | extended reports of RFC 3611 that measure the round trip from a receiver |
 //! | [`descriptor`] | the dependency descriptor: which frames a frame of video refers to |
 //! | [`waiting`] | a limit of waiting that follows how late missing packets arrive |
 //! | [`freezes`] | how often and how long a picture stood still, by the rule of the W3C |
 //! | [`layers`] | whether a keyframe begins in a payload, and its temporal layer |
+//! | [`edges`] | where pictures of video begin and end, and the numbers between them, which carry no media |
 //! | [`media`] | what frames say: keyframe, size, duration; OBUs, superframes, `av1C`, the Opus header |
 //! | [`codec`], [`interface`], [`buffer`], [`error`] | the payload layer: packetizers, depacketizers, what they say of a packet, the buffer, and their faults |
 //! | [`red`], [`vp8`], [`vp9`], [`av1`], [`amr_wb`], [`tele`], [`plain`] | one format each |
@@ -189,6 +191,22 @@ pub mod ccfb {
     pub use crate::ccfb::*;
 }
 
+/// Extended reports (RFC 3611) that measure the round trip from a receiver: its reference time (section 4.4), and the answer of the
+/// sender, DLRR (section 4.5).
+///
+/// The receiver sends [`write_reference_time`](xr::write_reference_time) with the NTP time of its clock. The sender reads
+/// [`reference_time`](xr::ExtendedReport::reference_time), and answers with [`write_dlrr`](xr::write_dlrr): the middle 32 bits of that
+/// time, and how long ago it came. From that [`round_trip`](xr::round_trip) has the time that both packets took.
+pub mod xr {
+    #[doc(inline)]
+    pub use crate::xr::{
+        Dlrr, ExtendedReport, XrFault, round_trip, write_dlrr, write_reference_time,
+    };
+
+    #[doc(hidden)]
+    pub use crate::xr::*;
+}
+
 /// The dependency descriptor of a frame of video: its layer, and which frames it refers to (AV1 RTP specification, appendix A).
 pub mod descriptor {
     #[doc(inline)]
@@ -226,6 +244,15 @@ pub mod layers {
 
     #[doc(hidden)]
     pub use crate::layers::*;
+}
+
+/// Where pictures of video begin and end, and the numbers between them, which carry no media.
+pub mod edges {
+    #[doc(inline)]
+    pub use crate::edges::{Between, Edge, Gaps, IdWidth, PictureEdges};
+
+    #[doc(hidden)]
+    pub use crate::edges::*;
 }
 
 /// Packetizers and depacketizers of your own, beside those of the library.

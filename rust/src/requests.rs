@@ -6,9 +6,14 @@
 pub mod keyframe;
 #[doc(hidden)]
 pub mod nack;
+#[doc(hidden)]
+pub mod round_trip;
 
 #[doc(inline)]
 pub use keyframe::KeyframeRequests;
 
 #[doc(inline)]
 pub use nack::{NackSchedule, NackSettings};
+
+#[doc(inline)]
+pub use round_trip::RoundTrip;

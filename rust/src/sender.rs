@@ -261,7 +261,7 @@ fn put_headers<B: Packetizer>(
 fn octets_in(out: &Payloads) -> u32 {
     let mut octets: u32 = 0;
     for place in 0..out.len() {
-        octets = octets.wrapping_add((out.get(place).len() % (1 << 32)) as u32);
+        octets = octets.wrapping_add((out.get(place).len() as u64 % (1 << 32)) as u32);
     }
     octets
 }
@@ -328,7 +328,10 @@ impl<B: Packetizer> Sender<B> {
         self.packets.out.settle(answer)?;
         let count = self.packets.out.len();
         self.counts = Counts {
-            packets: self.counts.packets.wrapping_add((count % (1 << 32)) as u32),
+            packets: self
+                .counts
+                .packets
+                .wrapping_add((count as u64 % (1 << 32)) as u32),
             octets: self
                 .counts
                 .octets

@@ -144,17 +144,33 @@ fn the_deadline_is_when_the_next_packet_is_due() {
     assert_eq!(requests.next_deadline(), Some(Ticks(60)));
 }
 
-/// The round trip is measured: 9/8 of 40 ms and 5 ms more until the next request (`NackSettings`).
+/// The round trip is measured: 9/8 of 40 ms and 5 ms more until the next request (`NackSettings`). One answer alone may be a packet that
+/// came by itself, so it makes no request earlier.
 #[test]
-fn an_answer_sets_the_time_between_two_requests() {
+fn two_answers_set_the_time_between_two_requests() {
+    for (answers, next) in [(1, 160), (2, 110)] {
+        let mut requests = requests();
+        requests.update(Ticks(0), &[1, 2], false).unwrap();
+        assert!(due(&mut requests, 10).is_some());
+        (1..=answers).for_each(|number| requests.answered(Ticks(50), number));
+        assert_eq!(requests.round_trip(), Some(40));
+        requests.update(Ticks(50), &[3], false).unwrap();
+        assert_eq!(asked(&due(&mut requests, 60).unwrap()), (vec![3], 0));
+        assert_eq!(requests.next_deadline(), Some(Ticks(next)));
+    }
+}
+
+/// With a round trip of 400 ms a keyframe is requested again after 600 ms, not after the interval of 500 ms.
+#[test]
+fn a_keyframe_on_its_way_is_not_requested_again() {
     let mut requests = requests();
-    requests.update(Ticks(0), &[1, 2], false).unwrap();
-    assert!(due(&mut requests, 10).is_some());
-    requests.answered(Ticks(50), 1);
-    requests.update(Ticks(50), &[2, 3], false).unwrap();
-    assert_eq!(asked(&due(&mut requests, 60).unwrap()), (vec![3], 0));
-    requests.update(Ticks(60), &[3], false).unwrap();
-    assert_eq!(requests.next_deadline(), Some(Ticks(110)));
+    requests.set_reported(Some(400));
+    requests.update(Ticks(0), &[], true).unwrap();
+    assert_eq!(asked(&due(&mut requests, 0).unwrap()), (vec![], 1));
+    assert_eq!(requests.next_deadline(), Some(Ticks(600)));
+    requests.set_reported(Some(40));
+    assert_eq!(asked(&due(&mut requests, 600).unwrap()), (vec![], 1));
+    assert_eq!(requests.next_deadline(), Some(Ticks(1_100)));
 }
 
 /// 70,000 numbers are missing; each NACK fits into a packet, and no number is requested twice.

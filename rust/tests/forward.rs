@@ -550,7 +550,7 @@ impl Vp9Source {
             self.is_long,
             (id % 32_768) as u16,
             (tl0 % 256) as u8,
-            picture.is_multiple_of(100),
+            picture % 100 == 0,
         );
         if number % 2 == 1 {
             payload[0] &= !0x08;

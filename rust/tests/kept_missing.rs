@@ -47,7 +47,7 @@ fn push(packets: &mut JitterBuffer, dice: &mut Dice, now: Ticks, number: u64) {
         ssrc: 5,
         ext_vals: ExtensionValues::default(),
     };
-    let payload = vec![if number.is_multiple_of(4) { 0x10 } else { 0 }, 7, 7];
+    let payload = vec![if number % 4 == 0 { 0x10 } else { 0 }, 7, 7];
     match dice.below(10) {
         0 | 1 => drop(packets.push_retransmitted(now, header, payload).unwrap()),
         2 => drop(packets.push_recovered(now, header, payload).unwrap()),

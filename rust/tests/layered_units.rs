@@ -468,7 +468,7 @@ fn evicts<W: Writes>() {
         let mut said = vec![];
         for (place, packet) in arrived.iter().enumerate() {
             receiver.receive(Ticks(packet.at), &packet.bytes).unwrap();
-            if (place as u64 / (limit as u64 * 2)).is_multiple_of(2) {
+            if (place as u64 / (limit as u64 * 2)) % 2 == 0 {
                 pop_all(&mut receiver, packet.at, &mut random, &mut said);
             }
         }

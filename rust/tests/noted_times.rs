@@ -19,7 +19,7 @@ struct Noted {
 
 impl Noted {
     fn contradicts(&self, number: u64, time: u32) -> bool {
-        number.is_multiple_of(self.spacing)
+        number % self.spacing == 0
             && self
                 .times
                 .get(&(number / self.spacing))
@@ -27,7 +27,7 @@ impl Noted {
     }
 
     fn note(&mut self, number: u64, time: u32) {
-        if !number.is_multiple_of(self.spacing) {
+        if number % self.spacing != 0 {
             return;
         }
         let index = number / self.spacing;

@@ -88,47 +88,92 @@ fn a_number_that_is_missing_again_begins_anew() {
     assert!(schedule.has_requested(5));
 }
 
-#[test]
-fn the_retry_time_follows_the_round_trip() {
+/// Numbers that are requested at 10 ms, and answered after these times.
+fn answered_after(times: &[u64]) -> NackSchedule {
+    let numbers: Vec<u64> = (1..=times.len() as u64).collect();
     let mut schedule = NackSchedule::new(NackSettings::live());
-    assert_eq!((schedule.round_trip(), schedule.retry_time()), (None, 100));
-    schedule.refresh(Ticks(0), &[1, 2, 3, 4]).unwrap();
-    assert_eq!(due(&mut schedule, 10), [1, 2, 3, 4]);
-    schedule.answered(Ticks(10 + 80), 1);
-    // 80 + 80 / 8 + 5
-    assert_eq!(
-        (schedule.round_trip(), schedule.retry_time()),
-        (Some(80), 95)
-    );
-    schedule.answered(Ticks(10 + 160), 2);
-    assert_eq!(
-        schedule.round_trip(),
-        Some(90),
-        "longer: an eighth of the way"
-    );
-    schedule.answered(Ticks(10 + 40), 3);
-    assert_eq!(schedule.round_trip(), Some(40), "shorter: at once");
-    schedule.answered(Ticks(10 + 4), 4);
-    assert_eq!(schedule.retry_time(), 20, "not below 20");
-    schedule.answered(Ticks(5_000), 77);
-    assert_eq!(
-        schedule.round_trip(),
-        Some(4),
-        "77 was not requested: nothing changes"
-    );
+    schedule.refresh(Ticks(0), &numbers).unwrap();
+    assert_eq!(due(&mut schedule, 10).len(), times.len());
+    for (number, time) in (1..).zip(times) {
+        schedule.answered(Ticks(10 + time), number);
+    }
+    schedule
 }
 
 #[test]
-fn a_second_request_measures_no_longer_round_trip() {
+fn the_round_trip_is_the_median_of_five_answers() {
+    let cases: [(&[u64], u64); 9] = [
+        (&[160], 160),
+        (&[1, 160], 160),
+        (&[160, 1], 160),
+        (&[1, 160, 161], 160),
+        (&[160, 161, 162, 1], 161),
+        (&[160, 1, 161, 999, 162], 161),
+        // Of six the oldest no longer counts: it rises as well as it falls.
+        (&[10, 10, 10, 80, 80, 80], 80),
+        (&[80, 80, 80, 10, 10, 10], 10),
+        (&[1, 1, 160, 160, 160], 160),
+    ];
+    for (times, trip) in cases {
+        assert_eq!(answered_after(times).round_trip(), Some(trip), "{times:?}");
+    }
+    let mut schedule = answered_after(&[80, 80]);
+    schedule.answered(Ticks(5_000), 77);
+    assert_eq!(schedule.round_trip(), Some(80), "77 was not requested");
+}
+
+#[test]
+fn the_retry_time_follows_the_round_trip() {
+    // 80 + 80 / 8 + 10 / 2; not below 20 and not above 400; by one answer not below 100.
+    let cases: [(&[u64], u64); 6] = [
+        (&[], 100),
+        (&[80], 100),
+        (&[80, 80], 95),
+        (&[4, 4], 20),
+        (&[900, 900], 400),
+        (&[200], 230),
+    ];
+    for (times, retry) in cases {
+        assert_eq!(answered_after(times).retry_time(), retry, "{times:?}");
+    }
+}
+
+/// All six tries, the first after 10 ms, each with the time until the next one: 10 + 6 * 95. While a number is missing that was requested
+/// with 100 ms until its next request, 10 + 6 * 100.
+#[test]
+fn a_packet_is_worth_waiting_for_until_its_last_request_is_answered() {
+    for times in [&[][..], &[80]] {
+        assert_eq!(answered_after(times).answer_time(), None);
+    }
+    let mut schedule = answered_after(&[80, 80]);
+    assert_eq!(schedule.answer_time(), Some(610));
+    schedule.refresh(Ticks(90), &[]).unwrap();
+    assert_eq!(schedule.answer_time(), Some(580));
+}
+
+#[test]
+fn a_report_counts_in_place_of_the_answers() {
+    let mut schedule = answered_after(&[1]);
+    schedule.set_reported(Some(160));
+    let (trip, retry) = (schedule.round_trip(), schedule.retry_time());
+    assert_eq!((trip, retry), (Some(160), 160 + 160 / 8 + 5));
+    schedule.refresh(Ticks(20), &[]).unwrap();
+    assert_eq!(schedule.answer_time(), Some(10 + 6 * 185));
+    schedule.set_reported(None);
+    let (trip, retry) = (schedule.round_trip(), schedule.retry_time());
+    assert_eq!((trip, retry), (Some(1), 100));
+}
+
+/// A number is measured from its first request on: the second one may be what is answered, so the time is long, and not short.
+#[test]
+fn a_second_request_does_not_shorten_the_round_trip() {
     let mut schedule = NackSchedule::new(NackSettings::live());
     schedule.refresh(Ticks(0), &[1, 2]).unwrap();
     assert_eq!(due(&mut schedule, 10), [1, 2]);
-    schedule.answered(Ticks(60), 1);
-    assert_eq!(schedule.retry_time(), 50 + 50 / 8 + 5);
-    schedule.refresh(Ticks(60), &[2]).unwrap();
-    assert_eq!(due(&mut schedule, 110), [2], "the first retry time was 100");
-    schedule.answered(Ticks(160), 2);
-    assert_eq!(schedule.round_trip(), Some(50));
+    assert_eq!(due(&mut schedule, 110), [1, 2]);
+    schedule.answered(Ticks(170), 1);
+    schedule.answered(Ticks(170), 2);
+    assert_eq!(schedule.round_trip(), Some(160));
 }
 
 #[test]

@@ -29,7 +29,7 @@ fn datagram(random: &mut Dice, codec: Codec, number: u16) -> Vec<u8> {
         return bytes;
     }
     if video {
-        let keyframe = frame.is_multiple_of(10);
+        let keyframe = frame % 10 == 0;
         bytes.push(if place == 0 { 0x10 } else { 0 });
         if place == 0 {
             bytes.extend([

@@ -115,9 +115,8 @@ impl Rule {
     fn arrived(&mut self, now: u64, number: u16) {
         self.lose(now);
         for place in &mut self.followed {
-            if let Some((missing, since)) = *place
-                && missing as u16 == number
-            {
+            let lost = place.filter(|(missing, _)| *missing as u16 == number);
+            if let Some((_, since)) = lost {
                 self.ages.push(now - since);
                 *place = None;
                 return;

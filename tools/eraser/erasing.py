@@ -5,6 +5,7 @@ import contracts
 import errors
 import forms
 import paths
+import portable
 from layout import CONSTANT_FUNCTIONS
 from tokens import joined, plain, tokens
 
@@ -22,6 +23,7 @@ def erase(f, crate, module, passed_on):
     calls.rename_calls(f)
     calls.rename_makers(f)
     forms.put_forms(f)
+    portable.be_portable(f)
     forms.default_bodies(f)
     forms.unit_literals(f)
     forms.mark_unused(f)

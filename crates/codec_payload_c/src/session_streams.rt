@@ -1,14 +1,14 @@
 //! The streams of a session: counters, what to request, and how long to wait.
 
 ghost use Rattle.std.specs.Prelude.{◌≡◌, ◌≢◌, slice_get};
-ghost use Rattle.codec_payload_c_receiving.specs.SessionStreams.{SetsWaitLimits, TellsLast, TellsMissingOf, TellsSessionCounts, TellsStreamAt, TellsWants, receiver_in};
+ghost use Rattle.codec_payload_c_receiving.specs.SessionStreams.{SetsRoundTrip, SetsWaitLimits, TellsLast, TellsMissingOf, TellsSessionCounts, TellsStreamAt, TellsWants, receiver_in};
 ghost use Rattle.codec_payload_handle.specs.Kinds.{OnPortSession, Refuses, is_port_session};
 ghost use Rattle.codec_payload_c_receiving.specs.StreamReceivers.{wait_limits_given};
 
 use codec_payload_c_receiving::receiver::WaitLimits;
 use codec_payload_c_receiving::session_streams::{
-    SessionCountsInfo, SessionStream, counts_of, last_stream, missing, set_wait_limits, stream_at,
-    wants_keyframe,
+    SessionCountsInfo, SessionStream, counts_of, last_stream, missing, set_round_trip,
+    set_wait_limits, stream_at, wants_keyframe,
 };
 use codec_payload_handle::handle::Handle;
 use codec_payload_handle::object::{Object, PortSession};
@@ -151,6 +151,29 @@ pub extern "C" fn cpay_session_set_wait_limits(
     };
     let answer = match &mut *object {
         Object::PortSession(port) => set_wait_limits(port, ssrc, payload_type, wait_limits),
+        _ => status::OTHER_KIND,
+    };
+    handle.put(object);
+    answer
+}
+
+/// Sets the round trip of a stream.
+#[unsafe(no_mangle)]
+pub extern "C" fn cpay_session_set_round_trip(
+    alloc: Global,
+    handle: &mut Handle,
+    ssrc: u32,
+    payload_type: u8,
+    round_trip: u64,
+) -> u32
+    ensures sets { OnPortSession handle.old.place.value (λ r s. SetsRoundTrip (receiver_in ssrc payload_type r) ssrc payload_type round_trip r result s) handle.new.place.value }
+    ensures refused { Refuses is_port_session handle.old.place.value result handle.new.place.value }
+{
+    let Some(mut object) = handle.take(alloc) else {
+        return status::EMPTY;
+    };
+    let answer = match &mut *object {
+        Object::PortSession(port) => set_round_trip(port, ssrc, payload_type, round_trip),
         _ => status::OTHER_KIND,
     };
     handle.put(object);

@@ -81,13 +81,13 @@ receiver_for codec rate payload_type purpose = receiver_that_waits (limits_by (i
 
 -- requests as for live media, of a session without a name
 pub record IsFeedback (f : SessionFeedback) : Type 0 where
-  pub keyframe_interval : f.keyframe_interval ≡ 500
+  pub keyframe_interval : f.keyframe_interval ≡ 100
   pub silence : f.silence ≡ 2000
   pub first_wait : f.first_wait ≡ 10
   pub retry : f.retry ≡ 100
   pub shortest_retry : f.shortest_retry ≡ 20
   pub longest_retry : f.longest_retry ≡ 400
-  pub longest_wait : f.longest_wait ≡ 800
+  pub longest_wait : f.longest_wait ≡ 1500
   pub report_interval : f.report_interval ≡ 1000
   pub max_report : f.max_report ≡ 1200
   pub capacity : f.capacity ≡ 1024

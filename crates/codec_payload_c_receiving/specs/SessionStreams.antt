@@ -1,11 +1,11 @@
 -- The streams of a session: counters, what to request, and how long to wait.
-use Rattle.std.specs.Prelude.{◌≡◌, ℕ, ◌+◌, ◌%◌, ◌^◌, ◌++◌, Bool, false, Option, Some, None, List, is_some, length, drop}
+use Rattle.std.specs.Prelude.{◌≡◌, ℕ, ◌+◌, ◌%◌, ◌^◌, ◌++◌, nat_lt, if◌then◌else◌, Bool, false, Option, Some, None, List, is_some, length, drop}
 use Rattle.std.specs.List.{position}
 use Rattle.std.specs.Option.{unwrap_or}
 use Rattle.codec_payload_handle.specs.declared.object.PortSession.{PortSession}
 use Rattle.codec_payload_jitter.specs.Missing.{missing_numbers}
 use Rattle.codec_payload_jitter.specs.declared.waiting.WaitLimits.{WaitLimits}
-use Rattle.codec_payload_session.specs.Ports.{receiver_among, taken_in, waits_of}
+use Rattle.codec_payload_session.specs.Ports.{receiver_among, taken_in, trips_of, waits_of}
 use Rattle.codec_payload_session_requests.specs.Requests.{request_counts_of, round_trip_of}
 use Rattle.codec_payload_session_stream.specs.Streams.{is_of}
 use Rattle.codec_payload_session_stream.specs.declared.stream.Stage.{Stage}
@@ -154,3 +154,12 @@ TellsWants (Some r) status before after = (status ≡ 0) × (after ≡ r.gates.g
 abbrev pub SetsWaitLimits : Option Receiver → (ssrc payload_type : ℕ) → WaitLimits → PortSession → ℕ → PortSession → Type 0
 SetsWaitLimits None ssrc payload_type limits r status s = (status ≡ 32) × (s ≡ r)
 SetsWaitLimits (Some _) ssrc payload_type limits r status s = (status ≡ 0) × (s ≡ record r { session = waits_of ssrc payload_type limits r.session })
+
+-- what C says of a round trip: 0 is none
+abbrev pub trip_given : ℕ → Option ℕ
+trip_given ticks = if nat_lt 0 ticks then Some ticks else None
+
+-- the round trip of a stream is set, if there is one; otherwise status 32, and nothing changes
+abbrev pub SetsRoundTrip : Option Receiver → (ssrc payload_type round_trip : ℕ) → PortSession → ℕ → PortSession → Type 0
+SetsRoundTrip None ssrc payload_type round_trip r status s = (status ≡ 32) × (s ≡ r)
+SetsRoundTrip (Some _) ssrc payload_type round_trip r status s = (status ≡ 0) × (s ≡ record r { session = trips_of ssrc payload_type (trip_given round_trip) r.session })

@@ -178,13 +178,13 @@ pub fn unnamed_feedback() -> SessionFeedback
     ensures { IsFeedback result }
 {
     SessionFeedback {
-        keyframe_interval: 500,
+        keyframe_interval: 100,
         silence: 2_000,
         first_wait: 10,
         retry: 100,
         shortest_retry: 20,
         longest_retry: 400,
-        longest_wait: 800,
+        longest_wait: 1_500,
         report_interval: 1_000,
         max_report: 1_200,
         capacity: 1_024,

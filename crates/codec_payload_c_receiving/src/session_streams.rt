@@ -1,7 +1,7 @@
 //! The streams of a session: counters, what to request, and how long to wait.
 
 ghost use Rattle.std.specs.Prelude.{◌≡◌, ◌≢◌, slice_get};
-ghost use Rattle.codec_payload_c_receiving.specs.SessionStreams.{DescribesStream, HasLastCounts, SetsWaitLimits, TellsLast, TellsMissingOf, TellsSessionCounts, TellsStreamAt, TellsWants, end_time, end_reason, receiver_in, stage_number};
+ghost use Rattle.codec_payload_c_receiving.specs.SessionStreams.{DescribesStream, HasLastCounts, SetsRoundTrip, SetsWaitLimits, TellsLast, TellsMissingOf, TellsSessionCounts, TellsStreamAt, TellsWants, end_time, end_reason, receiver_in, stage_number};
 ghost use Rattle.codec_payload_c_receiving.specs.StreamReceivers.{wait_limits_given};
 
 use crate::receiver::{
@@ -206,5 +206,21 @@ pub fn set_wait_limits(
     }
     port.session
         .set_wait_limits(ssrc, payload_type, waiting_for(*limits));
+    status::OK
+}
+
+/// Sets the round trip of a stream. 0: the answers to requests count.
+pub fn set_round_trip(port: &mut PortSession, ssrc: u32, payload_type: u8, round_trip: u64) -> u32
+    ensures { SetsRoundTrip (receiver_in ssrc payload_type port.old) ssrc payload_type round_trip port.old result port.new }
+{
+    if port.session.receiver_of(ssrc, payload_type).is_none() {
+        return status::NONE;
+    }
+    let reported = if round_trip > 0 {
+        Some(round_trip)
+    } else {
+        None
+    };
+    port.session.set_round_trip(ssrc, payload_type, reported);
     status::OK
 }

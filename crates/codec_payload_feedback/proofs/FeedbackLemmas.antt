@@ -7,12 +7,12 @@ use Rattle.codec_payload_rtcp.specs.RtcpWriting.{Appends, AreUnpadded, cname_chu
 use Rattle.codec_payload_rtcp.specs.NackNumbers.{Packs, numbers_in}
 use Rattle.codec_payload_feedback_requests.specs.NackSchedule.{Schedule, due_numbers, earliest_of, followed, is_due, low_bits}
 use Rattle.codec_payload_feedback_requests.specs.declared.nack.PendingRequest.{PendingRequest}
-use Rattle.codec_payload_feedback_requests.specs.KeyframeRequests.{after_request, deadline_of as keyframe_deadline, is_due as is_keyframe_due}
+use Rattle.codec_payload_feedback_requests.specs.KeyframeRequests.{after_pause, deadline_of as keyframe_deadline, is_due as is_keyframe_due}
 use Rattle.codec_payload_feedback_requests.specs.Requests.{has_come}
 use Rattle.codec_payload_feedback_requests.specs.declared.keyframe.KeyframeRequests.{KeyframeRequests}
 use Rattle.codec_payload_feedback_requests.proofs.MomentLemmas.{come_earlier}
 use Rattle.codec_payload_feedback_requests.proofs.NackLemmas.{none_due, nothing_due}
-use Rattle.codec_payload_feedback.specs.Feedback.{AppendsAll, AppendsNack, Bounded, IsFeedback, Source, cname_by, cname_if, description_part, has_any, keyframe_part, nack_by, report_part, Requests, after_feedback, counted, deadline_of, keyframe_is_due, numbers_due}
+use Rattle.codec_payload_feedback.specs.Feedback.{AppendsAll, AppendsNack, Bounded, IsFeedback, Source, cname_by, cname_if, description_part, has_any, keyframe_part, nack_by, report_part, Requests, after_feedback, counted, deadline_of, keyframe_is_due, keyframe_pause, numbers_due}
 use Rattle.codec_payload_feedback.specs.declared.requests.RequestCounts.{RequestCounts}
 
 -- ---- packets
@@ -120,8 +120,8 @@ keyframe_not_due now r none = by_test r.wanted none
     by_test true is = is
     by_test false is = refl
 
-keyframe_stays : (now : ℕ) (r : KeyframeRequests) → is_keyframe_due now r ≡ false → after_request now r ≡ r
-keyframe_stays now r none = rw none refl
+keyframe_stays : (now pause : ℕ) (r : KeyframeRequests) → is_keyframe_due now r ≡ false → after_pause now pause r ≡ r
+keyframe_stays now pause r none = rw none refl
 
 -- before the deadline there is no packet, and nothing changes
 pub record Rests (now : ℕ) (r : Requests) : Type 0 where
@@ -140,7 +140,7 @@ rests now r none =
     record {
       numbers = numbers;
       keyframe = keyframe;
-      after = rw (sym (nothing_due now r.nack both.0), keyframe_stays now r.keyframes keyframe, counted_none (numbers_due now r) (keyframe_is_due now r) r.counts numbers keyframe) refl;
+      after = rw (sym (nothing_due now r.nack both.0), keyframe_stays now (keyframe_pause r) r.keyframes keyframe, counted_none (numbers_due now r) (keyframe_is_due now r) r.counts numbers keyframe) refl;
     }
 
 pub no_packet : (s : Source) (now : ℕ) (r : Requests) → has_come (deadline_of r) now ≡ false → IsFeedback s r.ssrc (numbers_due now r) (keyframe_is_due now r) None

@@ -1,8 +1,9 @@
 -- The requests of a stream, and the compound packets that carry them.
-use Rattle.std.specs.Prelude.{◌≡◌, ◌≤◌, ℕ, ◌+◌, ◌%◌, ◌^◌, ◌==◌, ◌&&◌, not, min, nat_le, if◌then◌else◌, Bool, true, false, List, [], ◌∷◌, ◌++◌, length, map, Option, Some, None}
-use Rattle.codec_payload_feedback_requests.specs.KeyframeRequests.{after_request, deadline_of as keyframe_deadline, is_due, new_requests as no_keyframes}
-use Rattle.codec_payload_feedback_requests.specs.NackSchedule.{Schedule, after_answer, after_due, due_numbers, earliest_of, low_bits, new_schedule, refreshed}
+use Rattle.std.specs.Prelude.{◌≡◌, ◌≤◌, ℕ, ◌+◌, ◌/◌, ◌-◌, ◌%◌, ◌^◌, ◌==◌, ◌&&◌, not, min, nat_le, if◌then◌else◌, Bool, true, false, List, [], ◌∷◌, ◌++◌, length, map, Option, Some, None}
+use Rattle.codec_payload_feedback_requests.specs.KeyframeRequests.{after_pause, deadline_of as keyframe_deadline, is_due, new_requests as no_keyframes}
+use Rattle.codec_payload_feedback_requests.specs.NackSchedule.{Schedule, after_answer, after_due, due_numbers, earliest_of, low_bits, new_schedule, refreshed, reported_as}
 use Rattle.codec_payload_feedback_requests.specs.Requests.{earlier}
+use Rattle.codec_payload_feedback_requests.specs.RoundTrips.{known_trip}
 use Rattle.codec_payload_feedback_requests.specs.declared.keyframe.KeyframeRequests.{KeyframeRequests}
 use Rattle.codec_payload_feedback_requests.specs.declared.nack.NackSettings.{NackSettings}
 use Rattle.codec_payload_feedback.specs.declared.requests.RequestCounts.{RequestCounts}
@@ -112,6 +113,14 @@ numbers_due now r = map low_bits (due_numbers now r.nack)
 abbrev pub keyframe_is_due : ℕ → Requests → Bool
 keyframe_is_due now r = is_due now r.keyframes
 
+abbrev pub pause_by : Option ℕ → ℕ
+pause_by None = 0
+pause_by (Some round_trip) = min (round_trip + round_trip / 2) (2 ^ 64 - 1)
+
+-- a keyframe is not requested again for one and a half round trips: its packets may be on their way
+abbrev pub keyframe_pause : Requests → ℕ
+keyframe_pause r = pause_by (known_trip r.nack.trip)
+
 -- these requests are counted, modulo 2^64
 abbrev pub counted : List ℕ → Bool → RequestCounts → RequestCounts
 counted numbers keyframe c = record {
@@ -121,10 +130,14 @@ counted numbers keyframe c = record {
 
 -- what is due was sent
 abbrev pub after_feedback : ℕ → Requests → Requests
-after_feedback now r = record r { nack = after_due now r.nack; keyframes = after_request now r.keyframes; counts = counted (numbers_due now r) (keyframe_is_due now r) r.counts }
+after_feedback now r = record r { nack = after_due now r.nack; keyframes = after_pause now (keyframe_pause r) r.keyframes; counts = counted (numbers_due now r) (keyframe_is_due now r) r.counts }
 
 abbrev pub after_answered : ℕ → ℕ → Requests → Requests
 after_answered now number r = record r { nack = after_answer now number r.nack }
+
+-- reports say this round trip
+abbrev pub reporting : Option ℕ → Requests → Requests
+reporting round_trip r = record r { nack = reported_as round_trip r.nack }
 
 -- no number is followed, and no keyframe is needed
 abbrev pub is_idle : Requests → Bool

@@ -1,12 +1,13 @@
 //! The requests of one stream, and the compound packets that carry them.
 
-ghost use Rattle.std.specs.Prelude.{◌≡◌, ◌≤◌, ◌/◌, ◌%◌, ◌∷◌, [], ◌++◌, IfErr, IfOk, OnErr, OnOk, length};
+ghost use Rattle.std.specs.Prelude.{◌≡◌, ◌≤◌, ◌%◌, ◌∷◌, [], ◌++◌, IfErr, IfOk, OnErr, OnOk, length};
 ghost use Rattle.codec_payload_rtcp.specs.RtcpWriting.{AreUnpadded};
 ghost use Rattle.codec_payload_feedback_congestion.specs.Packet.{transport_feedback};
 ghost use Rattle.std.specs.Option.{option_map};
-ghost use Rattle.codec_payload_feedback_requests.specs.NackSchedule.{requested_by};
+ghost use Rattle.codec_payload_feedback_requests.specs.NackSchedule.{requested_by, sure_answer_time};
 ghost use Rattle.codec_payload_feedback_requests.specs.Requests.{earlier, has_come};
-ghost use Rattle.codec_payload_feedback.specs.Feedback.{AppendsAll, AppendsNack, IsFeedback, after_answered, after_feedback, counted, deadline_of, description_part, has_any, is_idle, keyframe_is_due, keyframe_part, new_requests, numbers_due, report_part, source_by, updated, wanting};
+ghost use Rattle.codec_payload_feedback_requests.specs.RoundTrips.{known_trip};
+ghost use Rattle.codec_payload_feedback.specs.Feedback.{AppendsAll, AppendsNack, IsFeedback, after_answered, after_feedback, counted, deadline_of, description_part, has_any, is_idle, keyframe_is_due, keyframe_part, keyframe_pause, new_requests, numbers_due, report_part, reporting, source_by, updated, wanting};
 
 use codec_payload_base::wire::Ticks;
 use codec_payload_feedback_congestion::packet::write_transport_packet;
@@ -202,8 +203,9 @@ impl FeedbackSource {
 
 impl StreamRequests {
     /// Returns the requests of the stream with this SSRC: so far none. `nack` says when a missing packet is requested; with 0 `tries`
-    /// none is, and at most 65,533 numbers are followed. Two requests for a keyframe are at least `keyframe_interval` ticks apart:
-    /// 500 ms suit live video. Does not allocate.
+    /// none is, and at most 65,533 numbers are followed. Two requests for a keyframe are at least `keyframe_interval` ticks apart, and at
+    /// least one and a half round trips, so that a keyframe that is on its way is not requested again: 100 ms suit live video. Does not
+    /// allocate.
     pub fn new(
         alloc: Global,
         ssrc: u32,
@@ -268,7 +270,7 @@ impl StreamRequests {
         let mut numbers = Vec::new(self.alloc);
         self.nack.append_due(now, &mut numbers)?;
         let mut keyframes = self.keyframes;
-        let keyframe = keyframes.take_due(now);
+        let keyframe = keyframes.take_due_after(now, self.keyframe_pause());
         let packet = source.packet(self.ssrc, &numbers, keyframe)?;
         self.nack.count_due(now);
         self.keyframes = keyframes;
@@ -299,12 +301,31 @@ impl StreamRequests {
         keyframes.take_due(now)
     }
 
-    /// Records that a retransmission of this sequence number (16 bits) arrived, which measures the round trip. Call it before the
-    /// `update` after that datagram.
+    /// Records that a retransmission of this sequence number (16 bits) arrived: the time since the first request of the number is a
+    /// sample of the round trip. Call it before the `update` after that datagram.
     pub fn answered(&mut self, now: Ticks, number: u16)
         ensures { self.new ≡ after_answered now.0 number self.old }
     {
         self.nack.answered(now, number);
+    }
+
+    /// Sets the round trip that reports measured, in ticks: extended reports (RFC 3611), for example. It then counts in place of the
+    /// answers. `None`: the answers count.
+    pub fn set_reported(&mut self, round_trip: Option<u64>)
+        ensures { self.new ≡ reporting round_trip self.old }
+    {
+        self.nack.set_reported(round_trip);
+    }
+
+    /// Returns how long after a request for a keyframe the next one follows at least, beside the interval: one and a half round trips, if
+    /// the round trip is known.
+    fn keyframe_pause(&self) -> u64
+        ensures { result ≡ keyframe_pause self.now }
+    {
+        match self.nack.round_trip() {
+            Some(round_trip) => round_trip.saturating_add(round_trip / 2),
+            None => 0,
+        }
     }
 
     /// Returns whether a missing number with these 16 bits was requested.
@@ -314,11 +335,21 @@ impl StreamRequests {
         self.nack.has_requested(number)
     }
 
-    /// Returns the measured round-trip time in ticks, once a request was answered.
+    /// Returns the round-trip time in ticks: what reports say, or else the median of the latest five answers. `None`: no request was
+    /// answered.
     pub fn round_trip(&self) -> Option<u64>
-        ensures { result ≡ option_map (λ eighths. eighths / 8) self.now.nack.round_trip }
+        ensures { result ≡ known_trip self.now.nack.trip }
     {
         self.nack.round_trip()
+    }
+
+    /// Returns how long a packet that is missing is worth waiting for, in ticks: until its last request is answered
+    /// ([`NackSettings::answer_time`]). `None`: the round trip is not sure, since reports do not say it, and fewer than two requests were
+    /// answered.
+    pub fn answer_time(&self) -> Option<u64>
+        ensures { result ≡ sure_answer_time self.now.nack }
+    {
+        self.nack.answer_time()
     }
 
     /// Returns whether nothing is requested: no number is missing, and no keyframe is needed, by the latest `update`.

@@ -169,7 +169,7 @@ none_tried tries retry now (r ∷ rs) none =
     rw both.0 (ap (λ (l : List PendingRequest). r ∷ l) (none_tried tries retry now rs both.1))
 
 pub nothing_due : (now : ℕ) (s : Schedule) → has_come (earliest_of s.pending) now ≡ false → s ≡ after_due now s
-nothing_due now s none = rw (none_tried s.settings.tries (retry_time s.settings s.round_trip) now s.pending none) refl
+nothing_due now s none = rw (none_tried s.settings.tries (retry_time s.settings s.trip) now s.pending none) refl
 
 pub nothing_appended : (now : ℕ) (s : Schedule) (ns : List ℕ) → has_come (earliest_of s.pending) now ≡ false → ns ≡ ns ++ map low_bits (due_numbers now s)
 nothing_appended now s ns none = rw (none_due now s.pending none) (sym (append-nil ns))

@@ -1,14 +1,17 @@
 -- Whole runs of a schedule: by induction on the calls.
-use Rattle.std.proofs.Common.{◌≡◌, ◌∙◌, ℕ, zero, suc, ◌+◌, ◌^◌, ◌<◌, ◌≤◌, ◌==◌, ◌&&◌, ◌||◌, Bool, true, false, cond, List, [], ◌∷◌, length, map, filter, take, Option, Some, None, refl, sym, ap, subst, arith, nat_le, nat_lt, unwrap_or, length-take}
+use Rattle.std.proofs.Common.{◌≡◌, ◌∙◌, ℕ, zero, suc, ◌+◌, ◌^◌, ◌-◌, ◌<◌, ◌≤◌, ◌==◌, ◌&&◌, ◌||◌, Bool, true, false, cond, List, [], ◌∷◌, length, filter, take, Option, Some, None, refl, sym, ap, subst, arith, nat_lt, unwrap_or, length-take}
 use Rattle.std.proofs.lemmas.List.{length-map}
 use Rattle.std.specs.Option.{option_map}
 use Rattle.std.proofs.lemmas.Bool.Decides.{nat_tests}
 use Rattle.codec_payload_feedback_requests.specs.declared.nack.NackSettings.{NackSettings}
 use Rattle.codec_payload_feedback_requests.specs.declared.nack.PendingRequest.{PendingRequest}
 use Rattle.codec_payload_feedback_requests.specs.NackSchedule.{Schedule, answer_of, are_rising, are_rising_after, due_in, earliest_of, followed, is_due, is_past, kept_or_new, new_request, numbers_of, refreshed_with, request_of, retry_time, rising_after, tried, tried_if_due, tried_in, trip_by}
-use Rattle.codec_payload_feedback_requests.specs.NackRuns.{Apart, AreApart, Bounded, Call, Exact, Missing, OnTime, Request, answered, begun, followed_since, is_in, missing_at, next_by, next_of, refresh, requests_of, requested_at, schedule_after, take_due}
+use Rattle.codec_payload_feedback_requests.specs.NackRuns.{Apart, AreApart, Bounded, Call, Exact, FollowsMost, Missing, OnTime, Reported, Request, answered, begun, followed_since, is_in, latest_of, missing_at, next_by, next_of, refresh, report, reported_by, requests_of, round_trip_after, samples_of, with_sample, requested_at, schedule_after, take_due}
 use Rattle.codec_payload_feedback_requests.specs.Requests.{earlier, has_come, later}
+use Rattle.codec_payload_feedback_requests.specs.RoundTrips.{LiesWithin, median, reported_or}
+use Rattle.codec_payload_feedback_requests.proofs.MedianLemmas.{median_lies}
 use Rattle.codec_payload_feedback_requests.proofs.MomentLemmas.{come_earlier, come_later}
+use Rattle.codec_payload_feedback_requests.proofs.SampleLemmas.{front_again}
 use Rattle.codec_payload_feedback_requests.proofs.NackLemmas.{followed_rises, kept_number, number_tried, numbers_refreshed, numbers_tried, weaken}
 
 -- ---- facts that stay
@@ -27,6 +30,7 @@ settings_stay settings (refresh now missing ∷ before) = settings_stay settings
 settings_stay settings (take_due now ∷ before) = settings_stay settings before
 settings_stay settings (answered now number ∷ before) =
     let s = schedule_after settings before in settings_trip (answer_of number s.pending) now s ∙ settings_stay settings before
+settings_stay settings (report round_trip ∷ before) = settings_stay settings before
 
 none_taken : (k : ℕ) (ns : List ℕ) → ns ≡ [] → take k ns ≡ ns
 none_taken zero [] is = refl
@@ -40,9 +44,10 @@ numbers_are settings (refresh now missing ∷ before) =
     let s = schedule_after settings before in
     numbers_refreshed s.settings now (followed s.settings missing) s.pending ∙ ap (λ (x : NackSettings). followed x missing) (settings_stay settings before)
 numbers_are settings (take_due now ∷ before) =
-    let s = schedule_after settings before in numbers_tried s.settings.tries (retry_time s.settings s.round_trip) now s.pending ∙ numbers_are settings before
+    let s = schedule_after settings before in numbers_tried s.settings.tries (retry_time s.settings s.trip) now s.pending ∙ numbers_are settings before
 numbers_are settings (answered now number ∷ before) =
     let s = schedule_after settings before in ap numbers_of (pending_trip (answer_of number s.pending) now s) ∙ numbers_are settings before
+numbers_are settings (report round_trip ∷ before) = numbers_are settings before
 
 rising : (settings : NackSettings) (calls : List Call) → are_rising (numbers_of (schedule_after settings calls).pending) ≡ true
 rising settings calls = ap are_rising (numbers_are settings calls) ∙ followed_rises settings (missing_at calls)
@@ -219,7 +224,7 @@ tracks settings n (take_due now ∷ before) small =
     let s = schedule_after settings before in
     let since = followed_since settings n before in
     let sent = requests_of settings n before in
-    let retry = retry_time s.settings s.round_trip in
+    let retry = retry_time s.settings s.trip in
     let is : request_of n (tried_in s.settings.tries retry now s.pending) ≡ option_map (tried_if_due settings.tries retry now) (request_of n s.pending) =
     ap (λ (x : NackSettings). request_of n (tried_in x.tries retry now s.pending)) (settings_stay settings before) ∙ request_tried settings.tries retry now n s.pending in
     let due : is_in n (due_in now s.pending) ≡ comes (request_of n s.pending) now = due_comes n now s.pending (rising settings before) in
@@ -230,6 +235,7 @@ tracks settings n (answered now number ∷ before) small =
     let s = schedule_after settings before in
     subst (λ (rs : List PendingRequest). Tracks settings (followed_since settings n before) (requests_of settings n before) (request_of n rs))
     (sym (pending_trip (answer_of number s.pending) now s)) (tracks settings n before small)
+tracks settings n (report round_trip ∷ before) small = tracks settings n before small
 
 -- ---- the theorems
 
@@ -276,11 +282,12 @@ apart settings (refresh now missing ∷ before) n small =
 apart settings (take_due now ∷ before) n small =
     let s = schedule_after settings before in
     let sent = requests_of settings n before in
-    let retry = retry_time s.settings s.round_trip in
+    let retry = retry_time s.settings s.trip in
     apart_if sent (request_now now retry ∷ sent) (is_in n (requested_at settings before now))
     (λ is. one_more settings (followed_since settings n before) sent retry now (sym (exact settings before n now small) ∙ is) (apart settings before n small))
     (apart settings before n small)
 apart settings (answered now number ∷ before) n small = apart settings before n small
+apart settings (report round_trip ∷ before) n small = apart settings before n small
 
 some_due : (rs : List PendingRequest) (now : ℕ) → nat_lt 0 (length (due_in now rs)) ≡ has_come (earliest_of rs) now
 some_due [] now = refl
@@ -293,3 +300,42 @@ some_due (r ∷ rs) now = by_test (is_due now r) refl (some_due rs now)
 
 pub on_time : OnTime
 on_time settings calls now = some_due (schedule_after settings calls).pending now
+
+-- ---- the round trip
+
+samples_trip : (o : Option PendingRequest) (now : ℕ) (s : Schedule) (samples : List ℕ) → s.trip.samples ≡ take 5 samples
+    → (trip_by o now s).trip.samples ≡ take 5 (with_sample o now samples)
+samples_trip None now s samples is = is
+samples_trip (Some r) now s samples is = ap (λ (l : List ℕ). take 5 ((now - r.first) ∷ l)) is ∙ ap (λ (l : List ℕ). (now - r.first) ∷ l) (front_again 4 samples)
+
+-- the latest five samples are kept
+samples_are : (settings : NackSettings) (calls : List Call) → (schedule_after settings calls).trip.samples ≡ latest_of settings calls
+samples_are settings [] = refl
+samples_are settings (refresh now ns ∷ before) = samples_are settings before
+samples_are settings (take_due now ∷ before) = samples_are settings before
+samples_are settings (answered now number ∷ before) =
+    let s = schedule_after settings before in samples_trip (answer_of number s.pending) now s (samples_of settings before) (samples_are settings before)
+samples_are settings (report round_trip ∷ before) = samples_are settings before
+
+reported_trip : (o : Option PendingRequest) (now : ℕ) (s : Schedule) → (trip_by o now s).trip.reported ≡ s.trip.reported
+reported_trip None now s = refl
+reported_trip (Some r) now s = refl
+
+reported_is : (settings : NackSettings) (calls : List Call) → (schedule_after settings calls).trip.reported ≡ reported_by calls
+reported_is settings [] = refl
+reported_is settings (refresh now ns ∷ before) = reported_is settings before
+reported_is settings (take_due now ∷ before) = reported_is settings before
+reported_is settings (answered now number ∷ before) =
+    let s = schedule_after settings before in reported_trip (answer_of number s.pending) now s ∙ reported_is settings before
+reported_is settings (report round_trip ∷ before) = refl
+
+pub reported : Reported
+reported settings calls ticks is =
+    let s = schedule_after settings calls in ap (λ (o : Option ℕ). reported_or o (median s.trip.samples)) (reported_is settings calls ∙ is)
+
+pub follows_most : FollowsMost
+follows_most settings calls a b none many =
+    let s = schedule_after settings calls in
+    let is : round_trip_after settings calls ≡ median (latest_of settings calls) =
+    ap (λ (o : Option ℕ). reported_or o (median s.trip.samples)) (reported_is settings calls ∙ none) ∙ ap median (samples_are settings calls) in
+    subst (LiesWithin a b) (sym is) (median_lies a b (latest_of settings calls) many)

@@ -1,5 +1,5 @@
 -- Moments of a clock that counts up to 2^64 - 1.
-use Rattle.std.specs.Prelude.{ℕ, ◌+◌, ◌^◌, nat_lt, nat_le, if◌then◌else◌, Bool, true, false, Option, Some, None}
+use Rattle.std.specs.Prelude.{ℕ, ◌+◌, ◌^◌, nat_lt, nat_le, if◌then◌else◌, Bool, false, Option, Some, None}
 
 -- the moment that comes `ticks` after now, if the clock gets there
 abbrev pub later : ℕ → ℕ → Option ℕ

@@ -2,7 +2,7 @@
 
 ghost use Rattle.std.specs.Prelude.{◌≡◌, IfSome, IfNone};
 ghost use Rattle.std.specs.Option.{option_map};
-ghost use Rattle.codec_payload_feedback_requests.specs.KeyframeRequests.{Spacing, after_request, deadline_of, is_due, new_requests};
+ghost use Rattle.codec_payload_feedback_requests.specs.KeyframeRequests.{Spacing, after_pause, after_request, deadline_of, is_due, new_requests};
 
 use codec_payload_base::wire::Ticks;
 
@@ -58,6 +58,18 @@ impl KeyframeRequests {
         true
     }
 
+    /// Does the same where an answer takes longer than `interval`: the next request follows at least `pause` ticks later, too.
+    pub fn take_due_after(&mut self, now: Ticks, pause: u64) -> bool
+        ensures due { result ≡ is_due now.0 self.old }
+        ensures after { self.new ≡ after_pause now.0 pause self.old }
+    {
+        if !self.is_due(now.0) {
+            return false;
+        }
+        self.next = now.0.checked_add(self.interval.max(pause));
+        true
+    }
+
     /// Whether a request is due at that moment.
     fn is_due(&self, now: u64) -> bool
         ensures { result ≡ is_due now self.now }
@@ -79,8 +91,8 @@ impl KeyframeRequests {
     }
 }
 
-/// Proves a theorem for each sequence of calls: two requests are at least the interval apart. A request is due exactly if a
-/// keyframe is needed and the interval since the last request has passed. This function does nothing else.
+/// Proves a theorem for each sequence of calls: two requests are at least the interval apart, and at least the pause of the first one.
+/// A request is due exactly if a keyframe is needed and both have passed since the last request. This function does nothing else.
 pub fn keyframe_requests_are_spaced()
     ensures { Spacing }
 {}

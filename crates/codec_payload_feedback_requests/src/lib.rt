@@ -3,3 +3,4 @@
 
 pub mod keyframe;
 pub mod nack;
+pub mod round_trip;

@@ -1,11 +1,13 @@
 //! When to request missing packets (generic NACK: RFC 4585, section 6.2.1).
 
-ghost use Rattle.std.specs.Prelude.{◌≡◌, ◌==◌, ◌++◌, ◌/◌, [], IsTrue, length, map, OnErr, OnOk, take};
+ghost use Rattle.std.specs.Prelude.{◌≡◌, ◌==◌, ◌++◌, [], IsTrue, length, map, OnErr, OnOk, take};
 ghost use Rattle.std.specs.Option.{option_map};
-ghost use Rattle.codec_payload_feedback_requests.specs.NackRuns.{Apart, Bounded, Exact, Missing, OnTime};
-ghost use Rattle.codec_payload_feedback_requests.specs.NackSchedule.{after_answer, after_due, answer_of, are_rising, due_in, due_numbers, earliest_of, followed, is_past, kept_if_first, low_bits, new_request, new_schedule, numbers_of, refreshed, refreshed_with, requested_by, retry_time, skipped_below, tried_if_due, tried_in, trip_after};
+ghost use Rattle.codec_payload_feedback_requests.specs.NackRuns.{Apart, Bounded, Exact, FollowsMost, Missing, OnTime, Reported};
+ghost use Rattle.codec_payload_feedback_requests.specs.NackSchedule.{answer_time, after_answer, after_due, answer_of, are_rising, due_in, due_numbers, earliest_of, followed, is_past, kept_if_first, low_bits, new_request, new_schedule, numbers_of, refreshed, refreshed_with, reported_as, requested_by, retry_for, retry_time, skipped_below, slowest_of, sure_answer_time, tried_if_due, tried_in};
 ghost use Rattle.codec_payload_feedback_requests.specs.Requests.{earlier, has_come};
+ghost use Rattle.codec_payload_feedback_requests.specs.RoundTrips.{known_trip};
 
+use crate::round_trip::RoundTrip;
 use codec_payload_base::wire::Ticks;
 use std::alloc::{AllocError, Global};
 use std::marker::Model;
@@ -27,7 +29,7 @@ pub struct NackSettings {
     pub longest_retry: u64,
     /// How often a number is requested at most. 6 by default. With 0 nothing is requested.
     pub tries: u32,
-    /// How many missing numbers are followed at most: the lowest. 1,024 by default. One takes 40 bytes, twice.
+    /// How many missing numbers are followed at most: the lowest. 1,024 by default. One takes 48 bytes, twice.
     pub capacity: usize,
 }
 
@@ -45,6 +47,28 @@ impl NackSettings {
             capacity: 1_024,
         }
     }
+
+    /// Returns the number of ticks between two requests of a number at this round trip: 9/8 of it and half of `first_wait`, so that an
+    /// answer that is a little late comes before the next request, within `shortest_retry` and `longest_retry`.
+    pub fn retry_for(&self, round_trip: u64) -> u64
+        ensures { result ≡ retry_for self.now round_trip }
+    {
+        round_trip
+            .saturating_add(round_trip / 8)
+            .saturating_add(self.first_wait / 2)
+            .max(self.shortest_retry)
+            .min(self.longest_retry)
+    }
+
+    /// Returns the number of ticks from the moment that a number is first reported missing until its last request is answered, if two
+    /// requests are `retry` ticks apart: `first_wait`, and `tries` times `retry`. 2^64 - 1 if it is longer.
+    pub fn answer_time(&self, retry: u64) -> u64
+        ensures { result ≡ answer_time self.now retry }
+    {
+        retry
+            .saturating_mul(u64::from(self.tries))
+            .saturating_add(self.first_wait)
+    }
 }
 
 /// A missing number, and when it is requested.
@@ -57,6 +81,8 @@ pub(crate) struct PendingRequest {
     first: u64,
     /// How often it was requested.
     tries: u32,
+    /// The longest time between two of its requests, or from the last one on; 0 if it was not requested.
+    gap: u64,
 }
 
 /// The missing numbers of one stream, and when each is requested.
@@ -69,10 +95,12 @@ pub struct NackSchedule {
     pending: Vec<PendingRequest>,
     /// Memory for the next table.
     spare: Vec<PendingRequest>,
-    /// Eight times the round-trip time, once a request was answered.
-    round_trip: Option<u64>,
+    /// The round-trip time, by the answers and by reports.
+    trip: RoundTrip,
     /// The earliest moment at which a number is due.
     earliest: Option<u64>,
+    /// The longest time between two requests of a number.
+    slowest: u64,
 }
 
 impl Model for NackSchedule {
@@ -80,9 +108,9 @@ impl Model for NackSchedule {
 
     ghost Value = { Schedule };
 
-    ghost view = { λ s. record { settings = s.settings; pending = s.pending.items; round_trip = s.round_trip } };
+    ghost view = { λ s. record { settings = s.settings; pending = s.pending.items; trip = s.trip } };
 
-    ghost invariant = { λ s. IsOrdered s.pending.items s.earliest };
+    ghost invariant = { λ s. IsOrdered s.pending.items s.earliest s.slowest };
 }
 
 impl NackSchedule {
@@ -94,8 +122,9 @@ impl NackSchedule {
             settings,
             pending: Vec::new(alloc),
             spare: Vec::new(alloc),
-            round_trip: None,
+            trip: RoundTrip::new(),
             earliest: None,
+            slowest: 0,
         }
     }
 
@@ -124,6 +153,7 @@ impl NackSchedule {
         )?;
         swap(&mut self.pending, &mut self.spare);
         self.earliest = earliest_of(&self.pending);
+        self.slowest = slowest_of(&self.pending);
         Ok(())
     }
 
@@ -168,9 +198,10 @@ impl NackSchedule {
             return;
         }
         let settings = self.settings;
-        let retry = retry_time(&settings, self.round_trip);
+        let retry = retry_time(&settings, &self.trip);
         try_due(settings.tries, retry, now.0, &mut self.pending);
         self.earliest = earliest_of(&self.pending);
+        self.slowest = slowest_of(&self.pending);
     }
 
     /// Returns whether no number is missing, by the latest `refresh`.
@@ -192,14 +223,21 @@ impl NackSchedule {
     }
 
     /// Records that a retransmission of this sequence number (16 bits) arrived. Call it before the `refresh` after that datagram. The
-    /// time since the first request measures the round trip: a shorter time counts at once, a longer one by an eighth, and only
-    /// if the number was requested once. A number that was not requested changes nothing.
+    /// time since the first request of the number is a sample of the round trip. A number that was not requested changes nothing.
     pub fn answered(&mut self, now: Ticks, number: u16)
         ensures { self.new ≡ after_answer now.0 number self.old }
     {
         if let Some(request) = requested(&self.pending, number) {
-            self.round_trip = Some(trip_after(self.round_trip, now.0, request));
+            self.trip.note(now.0.saturating_sub(request.first));
         }
+    }
+
+    /// Sets the round trip that reports measured, in ticks: extended reports (RFC 3611), for example. It then counts in place of the
+    /// answers. `None`: the answers count.
+    pub fn set_reported(&mut self, round_trip: Option<u64>)
+        ensures { self.new ≡ reported_as round_trip self.old }
+    {
+        self.trip.set_reported(round_trip);
     }
 
     /// Returns whether a missing number with these 16 bits was requested.
@@ -209,36 +247,51 @@ impl NackSchedule {
         requested(&self.pending, number).is_some()
     }
 
-    /// Returns the measured round-trip time in ticks, once a request was answered.
+    /// Returns the round-trip time in ticks: what reports say, or else the median of the latest five answers. `None`: no request was
+    /// answered.
     pub fn round_trip(&self) -> Option<u64>
-        ensures { result ≡ option_map (λ eighths. eighths / 8) self.now.round_trip }
+        ensures { result ≡ known_trip self.now.trip }
     {
-        match self.round_trip {
-            Some(eighths) => Some(eighths / 8),
+        self.trip.value()
+    }
+
+    /// Returns how long a packet that is missing is worth waiting for, in ticks: [`NackSettings::answer_time`] of the time between two
+    /// requests, now or of a number that is missing. `None`: the round trip is not sure, since reports do not say it, and fewer than two
+    /// requests were answered. The first answer alone may be a packet that came by itself.
+    pub fn answer_time(&self) -> Option<u64>
+        ensures { result ≡ sure_answer_time self.now }
+    {
+        match self.trip.sure_value() {
+            Some(round_trip) => {
+                let retry = self.settings.retry_for(round_trip).max(self.slowest);
+                Some(self.settings.answer_time(retry))
+            }
             None => None,
         }
     }
 
-    /// Returns the number of ticks between two requests of a number: `retry`, or once the round-trip time is known 9/8 of it and 5
-    /// more, within `shortest_retry` and `longest_retry`.
+    /// Returns the number of ticks between two requests of a number: `retry`, or once the round-trip time is known that of
+    /// [`NackSettings::retry_for`]; by one answer alone at least `retry`.
     pub fn retry_time(&self) -> u64
-        ensures { result ≡ retry_time self.now.settings self.now.round_trip }
+        ensures { result ≡ retry_time self.now.settings self.now.trip }
     {
-        retry_time(&self.settings, self.round_trip)
+        retry_time(&self.settings, &self.trip)
     }
 }
 
 /// Ticks between two requests of a number.
-fn retry_time(settings: &NackSettings, round_trip: Option<u64>) -> u64
-    ensures { result ≡ retry_time settings.now round_trip }
+fn retry_time(settings: &NackSettings, trip: &RoundTrip) -> u64
+    ensures { result ≡ retry_time settings.now trip.now }
 {
-    match round_trip {
+    match trip.value() {
         None => settings.retry,
-        Some(eighths) => {
-            let retry = eighths / 8 + eighths / 64 + 5;
-            retry
-                .max(settings.shortest_retry)
-                .min(settings.longest_retry)
+        Some(round_trip) => {
+            let retry = settings.retry_for(round_trip);
+            if trip.is_sure() {
+                retry
+            } else {
+                retry.max(settings.retry)
+            }
         }
     }
 }
@@ -257,6 +310,7 @@ fn new_request(settings: &NackSettings, now: u64, number: u64) -> PendingRequest
         due,
         first: 0,
         tries: 0,
+        gap: 0,
     }
 }
 
@@ -406,6 +460,7 @@ fn tried_if_due(tries: u32, retry: u64, now: u64, request: PendingRequest) -> Pe
             request.first
         },
         tries: sent,
+        gap: request.gap.max(retry),
     }
 }
 
@@ -419,7 +474,7 @@ fn try_due(tries: u32, retry: u64, now: u64, pending: &mut [PendingRequest])
 }
 
 /// The earlier of two moments.
-fn earlier(one: Option<u64>, other: Option<u64>) -> Option<u64>
+pub(crate) fn earlier(one: Option<u64>, other: Option<u64>) -> Option<u64>
     ensures { result ≡ earlier one other }
 {
     match (one, other) {
@@ -440,6 +495,17 @@ fn earliest_of(pending: &[PendingRequest]) -> Option<u64>
     earliest
 }
 
+/// The longest time between two requests of a number.
+fn slowest_of(pending: &[PendingRequest]) -> u64
+    ensures { result ≡ slowest_of pending.now }
+{
+    let mut slowest = 0;
+    for request in pending {
+        slowest = slowest.max(request.gap);
+    }
+    slowest
+}
+
 /// The lowest number with these 16 bits that was requested.
 fn requested(pending: &[PendingRequest], number: u16) -> Option<PendingRequest>
     ensures { result ≡ answer_of number pending.now }
@@ -452,25 +518,16 @@ fn requested(pending: &[PendingRequest], number: u16) -> Option<PendingRequest>
     None
 }
 
-/// Eight times the round-trip time after an answer.
-fn trip_after(before: Option<u64>, now: u64, request: PendingRequest) -> u64
-    ensures { result ≡ trip_after before now request }
-{
-    let measured = now.saturating_sub(request.first).saturating_mul(8);
-    match before {
-        None => measured,
-        Some(known) if request.tries == 1 && known < measured => known + (measured - known) / 8,
-        Some(known) => known.min(measured),
-    }
-}
-
 /// Proves theorems for each sequence of calls. A number is requested only while it is missing, at most `tries` times, and not
 /// within the retry time after its last request. A number is due exactly if it has waited. At the deadline and later a number is
-/// due, before it none. This function does nothing else.
+/// due, before it none. While reports say no round trip, it is within any range in which more than half of the latest five samples are;
+/// while they say one, it is that one. This function does nothing else.
 pub fn nack_schedules_keep_their_settings()
     ensures exact { Exact }
     ensures missing { Missing }
     ensures bounded { Bounded }
     ensures apart { Apart }
     ensures on_time { OnTime }
+    ensures follows_most { FollowsMost }
+    ensures reported { Reported }
 {}

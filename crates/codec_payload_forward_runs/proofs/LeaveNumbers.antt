@@ -9,7 +9,7 @@ use Rattle.codec_payload_sending_forward.specs.Forwarding.{Forward, Forwards, Le
 use Rattle.codec_payload_base.specs.declared.wire.Codec.{Codec}
 use Rattle.codec_payload_sending_forward.specs.Ids.{Ids, id_to_leave, offsets_at, offsets_switched, picture_closed}
 use Rattle.codec_payload_sending_forward.specs.declared.ids.PayloadIds.{PayloadIds}
-use Rattle.codec_payload_forward_runs.proofs.ViewerLemmas.{ids_stay, left_stay, switched_none, switched_to}
+use Rattle.codec_payload_forward_runs.proofs.ViewerLemmas.{ids_stay, late_leaving, left_stay, switched_none, switched_to}
 use Rattle.codec_payload_sending_forward.specs.NumberRuns.{Call, Stretch, after_call, map_after, number_of, packet, stretch_after}
 use Rattle.codec_payload_sending_forward.specs.Numbers.{AllBelow, Falls, Numbers, above, after_packet, begun, below, closed, is_in, is_too_old, next_number, placed, sent_as}
 use Rattle.codec_payload_sending_forward.specs.declared.forwarder.Forwarded.{Forwarded}
@@ -437,8 +437,8 @@ module _ (ssrc low : ℕ) (steady : Bool) (id_of : ℕ → ℕ) (codec : Codec) 
           ids_next : (f.numbers.highest ≤ (after_packet n true f.numbers).highest) → (after_packet n true f.numbers).first ≡ f.numbers.first → (after_packet n true f.numbers).left_out ≡ f.numbers.left_out
               → IdsHold since f.ids f.numbers gone → IdsHold since (after_next now p f).ids (after_next now p f).numbers gone
           ids_next highest first out =
-              ids_same since f.ids (after_next now p f).ids f.numbers (after_packet n true f.numbers) gone (ids_stay (ltb f.numbers.highest n) f.settings.codec n p.payload f.ids)
-              (left_stay (ltb f.numbers.highest n) f.settings.codec n p.payload f.ids) first highest out
+              ids_same since f.ids (after_next now p f).ids f.numbers (after_packet n true f.numbers) gone (ids_stay (ltb f.numbers.highest n) (ltb f.latest n) f.settings.codec n p.payload f.ids)
+              (left_stay (ltb f.numbers.highest n) (ltb f.latest n) f.settings.codec n p.payload f.ids) first highest out
 
           below_top : n ≤ f.numbers.highest → Turned k d (on since high) f gone later (after_next now p f) gone (bytes ∷ []) (k ∷ [])
           below_top l =
@@ -465,7 +465,8 @@ module _ (ssrc low : ℕ) (steady : Bool) (id_of : ℕ → ℕ) (codec : Codec) 
                   ids = λ moves. ids_next (omega (arith, ap (λ (m : Numbers). m.highest) map_same)) (ap (λ (m : Numbers). m.first) map_same) (ap (λ (m : Numbers). m.left_out) map_same) (is_on.ids moves);
                   pictures = is_on.pictures;
                   tracks = is_on.tracks;
-                  leaving = λ moves. ap (λ (b : Bool). (ids_when b f.settings.codec n p.payload f.ids).leaving) (le-ltb f.numbers.highest n l) ∙ is_on.leaving moves;
+                  leaving = λ moves. ap (λ (b : Bool). (ids_when b (ltb f.latest n) f.settings.codec n p.payload f.ids).leaving) (le-ltb f.numbers.highest n l)
+                      ∙ (late_leaving (ltb f.latest n) f.settings.codec n p.payload f.ids ∙ is_on.leaving moves);
                 };
                 near = near_low (index_low l);
                 settings = refl;
@@ -500,7 +501,7 @@ module _ (ssrc low : ℕ) (steady : Bool) (id_of : ℕ → ℕ) (codec : Codec) 
                   ids = λ moves. ids_next (omega (arith, l, ap (λ (m : Numbers). m.highest) map_is)) (ap (λ (m : Numbers). m.first) map_is) (ap (λ (m : Numbers). m.left_out) map_is) (is_on.ids moves);
                   pictures = all_below_less (suc high) (suc k) since.pictures (omega (arith, up)) is_on.pictures;
                   tracks = is_on.tracks;
-                  leaving = λ moves. ap (λ (b : Bool). (ids_when b f.settings.codec n p.payload f.ids).leaving) (lt-ltb f.numbers.highest n l)
+                  leaving = λ moves. ap (λ (b : Bool). (ids_when b (ltb f.latest n) f.settings.codec n p.payload f.ids).leaving) (lt-ltb f.numbers.highest n l)
                       ∙ (sent_leaving (offsets_for f.settings.codec f.ids n) (ids_in f.settings.codec p.payload) f.ids
                       ∙ sym (ap (λ (b : Bool). leaving_at id_of b k) (not_in k gone (all_below_less (suc high) k gone (omega (arith, up)) is_on.within))));
                 };

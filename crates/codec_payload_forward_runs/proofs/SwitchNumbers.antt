@@ -212,7 +212,7 @@ module _ (a b : ℕ) (differ : a ≡ b → ⊥) (codec : Codec) where
         let offset : t.numbers.offset ≡ f.numbers.offset = ap (λ (m : Numbers). m.offset) numbers ∙ stays.0 in
         let none : t.numbers.left_out ≡ [] = ap (λ (m : Numbers). m.left_out) numbers ∙ (stays.1 ∙ on_f.none_left) in
         let times : t.times.offset ≡ f.times.offset = ap (λ (x : Forward). x.times.offset) is in
-        let ids : t.ids.offsets ≡ f.ids.offsets = ap (λ (x : Forward). x.ids.offsets) is ∙ ids_stay (nat_lt f.numbers.highest n) f.settings.codec n p.payload f.ids in
+        let ids : t.ids.offsets ≡ f.ids.offsets = ap (λ (x : Forward). x.ids.offsets) is ∙ ids_stay (nat_lt f.numbers.highest n) (nat_lt f.latest n) f.settings.codec n p.payload f.ids in
         let settings : t.settings ≡ f.settings = ap (λ (x : Forward). x.settings) is in
         let number : ℕ = n + r.lowest - f.numbers.first in
         let next : Reached = after_more number p r in
@@ -237,7 +237,7 @@ module _ (a b : ℕ) (differ : a ≡ b → ⊥) (codec : Codec) where
               times = times ∙ on_f.times;
               ids = ids ∙ on_f.ids;
               none_left = none;
-              none_closed = ap (λ (x : Forward). x.ids.left_out) is ∙ (left_stay (nat_lt f.numbers.highest n) f.settings.codec n p.payload f.ids ∙ on_f.none_closed);
+              none_closed = ap (λ (x : Forward). x.ids.left_out) is ∙ (left_stay (nat_lt f.numbers.highest n) (nat_lt f.latest n) f.settings.codec n p.payload f.ids ∙ on_f.none_closed);
               base = omega (arith, lowest, on_f.base);
               from = omega (arith, lowest, highest, on_f.from);
               place = omega (arith, lowest, highest, on_f.place, on_f.from, near.0);

@@ -6,8 +6,8 @@ use Rattle.codec_payload_base.specs.Extended.{ahead, nearest}
 use Rattle.codec_payload_base.specs.declared.wire.Codec.{Codec}
 use Rattle.codec_payload_rtp.specs.RtpPackets.{Packet, packet_bytes}
 use Rattle.codec_payload_rtp.specs.RtpReading.{rtp_at}
-use Rattle.codec_payload_sending_forward.specs.Forwarding.{Forward, Forwards, after_begin, after_next, first_packet, ids_in, ids_when, is_source, next_packet, number_in, offsets_for, packet_under, payload_for, sent_packet, ticks_between}
-use Rattle.codec_payload_sending_forward.specs.Ids.{Ids, after_picture, offsets_switched, switched_ids}
+use Rattle.codec_payload_sending_forward.specs.Forwarding.{Forward, Forwards, after_begin, after_next, first_packet, ids_in, ids_late, ids_when, is_source, next_packet, number_in, offsets_for, packet_under, payload_for, sent_packet, ticks_between}
+use Rattle.codec_payload_sending_forward.specs.Ids.{Ids, after_picture, after_sent, offsets_switched, switched_ids}
 use Rattle.codec_payload_sending_forward.specs.Numbers.{Numbers, after_packet, is_in, is_too_old, next_number, placed, sent_as}
 use Rattle.codec_payload_sending_forward.specs.Times.{time_as}
 use Rattle.codec_payload_sending_forward.specs.declared.forwarder.Forwarded.{Forwarded}
@@ -87,16 +87,27 @@ sent_left : (o : IdOffsets) (ids : Option PayloadIds) (m : Ids) → (after_pictu
 sent_left o None m = refl
 sent_left o (Some ids) m = refl
 
-pub left_stay : (ahead : Bool) (codec : Codec) (n : ℕ) (payload : List ℕ) (m : Ids) → (ids_when ahead codec n payload m).left_out ≡ m.left_out
-left_stay true codec n payload m = sent_left (offsets_for codec m n) (ids_in codec payload) m
-left_stay false codec n payload m = refl
+-- a late one leaves the picture that was left out too
+late_leaves : (o : IdOffsets) (ids : Option PayloadIds) (m : Ids) → ((after_sent o ids m).offsets ≡ m.offsets) × ((after_sent o ids m).left_out ≡ m.left_out) × ((after_sent o ids m).leaving ≡ m.leaving)
+late_leaves o None m = (refl, refl, refl)
+late_leaves o (Some ids) m = (refl, refl, refl)
+
+pub late_leaving : (latest : Bool) (codec : Codec) (n : ℕ) (payload : List ℕ) (m : Ids) → (ids_late latest codec n payload m).leaving ≡ m.leaving
+late_leaving true codec n payload m = (late_leaves (offsets_for codec m n) (ids_in codec payload) m).2
+late_leaving false codec n payload m = refl
+
+pub left_stay : (ahead latest : Bool) (codec : Codec) (n : ℕ) (payload : List ℕ) (m : Ids) → (ids_when ahead latest codec n payload m).left_out ≡ m.left_out
+left_stay true latest codec n payload m = sent_left (offsets_for codec m n) (ids_in codec payload) m
+left_stay false true codec n payload m = (late_leaves (offsets_for codec m n) (ids_in codec payload) m).1
+left_stay false false codec n payload m = refl
 
 pub switched_none : (ids : Option PayloadIds) (m : Ids) → (switched_ids ids m).left_out ≡ []
 switched_none ids m = sent_left (offsets_switched m ids) ids (record m { offsets = offsets_switched m ids; left_out = [] })
 
-pub ids_stay : (ahead : Bool) (codec : Codec) (n : ℕ) (payload : List ℕ) (m : Ids) → (ids_when ahead codec n payload m).offsets ≡ m.offsets
-ids_stay true codec n payload m = sent_leaves (offsets_for codec m n) (ids_in codec payload) m
-ids_stay false codec n payload m = refl
+pub ids_stay : (ahead latest : Bool) (codec : Codec) (n : ℕ) (payload : List ℕ) (m : Ids) → (ids_when ahead latest codec n payload m).offsets ≡ m.offsets
+ids_stay true latest codec n payload m = sent_leaves (offsets_for codec m n) (ids_in codec payload) m
+ids_stay false true codec n payload m = (late_leaves (offsets_for codec m n) (ids_in codec payload) m).0
+ids_stay false false codec n payload m = refl
 
 -- the packet with which the forwarder begins
 begun_packet : (steady : Bool) (ssrc now : ℕ) (p : Packet) (f : Forward) → IsOf steady ssrc f.settings.codec p → first_packet now f p ≡ viewer_packet (after_begin now p f) p
@@ -184,11 +195,11 @@ goes_next ssrc now p f t is =
       source = λ on. ap (λ (x : Forward). is_source x.source ssrc) is ∙ on;
       numbers = λ on. ap (λ (x : Forward). x.numbers.offset) is ∙ stays.0;
       times = λ on. ap (λ (x : Forward). x.times.offset) is;
-      ids = λ on. ap (λ (x : Forward). x.ids.offsets) is ∙ ids_stay (nat_lt f.numbers.highest (number_in f p)) f.settings.codec (number_in f p) p.payload f.ids;
+      ids = λ on. ap (λ (x : Forward). x.ids.offsets) is ∙ ids_stay (nat_lt f.numbers.highest (number_in f p)) (nat_lt f.latest (number_in f p)) f.settings.codec (number_in f p) p.payload f.ids;
       none = λ steady none on.
           let before = none (sym (ap (λ (x : Forward). is_source x.source ssrc) is) ∙ on) in (
             ap (λ (x : Forward). x.numbers.left_out) is ∙ (stays.1 ∙ before.0),
-            λ ids. ap (λ (x : Forward). x.ids.left_out) is ∙ (left_stay (nat_lt f.numbers.highest (number_in f p)) f.settings.codec (number_in f p) p.payload f.ids ∙ before.1 ids),
+            λ ids. ap (λ (x : Forward). x.ids.left_out) is ∙ (left_stay (nat_lt f.numbers.highest (number_in f p)) (nat_lt f.latest (number_in f p)) f.settings.codec (number_in f p) p.payload f.ids ∙ before.1 ids),
           );
     }
 

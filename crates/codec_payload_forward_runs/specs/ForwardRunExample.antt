@@ -44,6 +44,7 @@ forwarder_for codec = record {
   ids = first_ids;
   next = 0;
   written_at = None;
+  latest = 0;
 }
 
 -- After it forwarded datagrams of the sender: the first has the number 65,535 and the time 960. `last` is the number of the last one
@@ -54,6 +55,7 @@ forwarder_after codec last time now = record (forwarder_for codec) {
   numbers = record (begun 131071 100) { highest = 131071 + last };
   times = record (begun_times 960 5000) { highest = time + 4040 };
   written_at = Some now;
+  latest = 131071 + last;
 }
 
 abbrev pub viewer_settings : Vec ℕ → Settings

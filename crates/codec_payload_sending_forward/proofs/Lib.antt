@@ -1,4 +1,5 @@
 pub mod IdLemmas
+pub mod IdRunLemmas
 pub mod MapLemmas
 pub mod NumberLemmas
 pub mod NumberRunLemmas

@@ -1,12 +1,12 @@
 -- A packet that is written again is the packet that was sent.
-use Rattle.std.proofs.Common.{◌≡◌, refl, ap, ℕ, ◌+◌, ◌%◌, List, Bool, true, false, ltb, Option, Some, None}
+use Rattle.std.proofs.Common.{◌≡◌, ◌∙◌, refl, ap, ℕ, ◌+◌, ◌-◌, ◌%◌, List, length, Bool, true, false, ltb, Option, Some, None}
 use Rattle.codec_payload_base.specs.declared.wire.Codec.{Codec}
 use Rattle.codec_payload_base.specs.declared.wire.Codec.TheVariants as codecs
 use Rattle.codec_payload_sending_forward.specs.declared.ids.IdOffsets.{IdOffsets}
 use Rattle.codec_payload_sending_forward.specs.declared.ids.PayloadIds.{PayloadIds}
 use Rattle.codec_payload_sending_forward.specs.Forwarding.{RepeatsWhatWasSent, ids_in, ids_when, offsets_for, sent_packet}
-use Rattle.codec_payload_sending_forward.specs.Numbers.{Numbers, after_packet, is_too_old, sent_as}
-use Rattle.codec_payload_sending_forward.specs.Ids.{Ids, after_picture, offsets_at}
+use Rattle.codec_payload_sending_forward.specs.Numbers.{Numbers, above, after_packet, is_too_old, sent_as}
+use Rattle.codec_payload_sending_forward.specs.Ids.{Ids, after_picture, after_sent}
 
 -- Numbers
 
@@ -20,40 +20,47 @@ same_sent m number n = by (is_too_old m number) refl (ltb m.highest number) refl
 
 -- Ids: the offsets of what was sent do not depend on what is sent later
 
-same_at : (o : IdOffsets) (sent : Option PayloadIds) (m : Ids) (n : ℕ) → offsets_at (after_picture o sent m) n ≡ offsets_at m n
-same_at o (Some ids) m n = refl
-same_at o None m n = refl
+-- the offsets depend on what is added to the ids, and on the pictures that are left out
+by_offsets : (codec : Codec) (m t : Ids) (n : ℕ) → t.offsets ≡ m.offsets → t.left_out ≡ m.left_out → offsets_for codec t n ≡ offsets_for codec m n
+by_offsets codecs.Vp8 m t n offsets left =
+    ap (λ (o : IdOffsets). record o { picture = (o.picture + (65536 - (length t.left_out - above n t.left_out))) % 65536 }) offsets
+    ∙ ap (λ (numbers : List ℕ). record m.offsets { picture = (m.offsets.picture + (65536 - (length numbers - above n numbers))) % 65536 }) left
+by_offsets codecs.Opus m t n offsets left = offsets
+by_offsets codecs.PCMU m t n offsets left = offsets
+by_offsets codecs.PCMA m t n offsets left = offsets
+by_offsets codecs.G722 m t n offsets left = offsets
+by_offsets codecs.CN m t n offsets left = offsets
+by_offsets codecs.AmrWb m t n offsets left = offsets
+by_offsets codecs.H264 m t n offsets left = offsets
+by_offsets codecs.H265 m t n offsets left = offsets
+by_offsets codecs.H266 m t n offsets left = offsets
+by_offsets codecs.Vp9 m t n offsets left = offsets
+by_offsets codecs.Av1 m t n offsets left = offsets
+by_offsets codecs.Null m t n offsets left = offsets
+by_offsets codecs.Tele m t n offsets left = offsets
+by_offsets codecs.Rtx m t n offsets left = offsets
+by_offsets codecs.Red m t n offsets left = offsets
+by_offsets codecs.Unknown m t n offsets left = offsets
 
-same_begun : (o : IdOffsets) (sent : Option PayloadIds) (m : Ids) → (after_picture o sent m).offsets ≡ m.offsets
-same_begun o (Some ids) m = refl
-same_begun o None m = refl
+same_sent_offsets : (o : IdOffsets) (sent : Option PayloadIds) (m : Ids) → ((after_sent o sent m).offsets ≡ m.offsets) × ((after_sent o sent m).left_out ≡ m.left_out)
+same_sent_offsets o None m = (refl, refl)
+same_sent_offsets o (Some ids) m = (refl, refl)
+
+same_late : (codec : Codec) (o : IdOffsets) (sent : Option PayloadIds) (m : Ids) (n : ℕ) → offsets_for codec (after_sent o sent m) n ≡ offsets_for codec m n
+same_late codec o sent m n = by_offsets codec m (after_sent o sent m) n (same_sent_offsets o sent m).0 (same_sent_offsets o sent m).1
 
 same_offsets : (codec : Codec) (o : IdOffsets) (sent : Option PayloadIds) (m : Ids) (n : ℕ) → offsets_for codec (after_picture o sent m) n ≡ offsets_for codec m n
-same_offsets codecs.Vp8 o sent m n = same_at o sent m n
-same_offsets codecs.Opus o sent m n = same_begun o sent m
-same_offsets codecs.PCMU o sent m n = same_begun o sent m
-same_offsets codecs.PCMA o sent m n = same_begun o sent m
-same_offsets codecs.G722 o sent m n = same_begun o sent m
-same_offsets codecs.CN o sent m n = same_begun o sent m
-same_offsets codecs.AmrWb o sent m n = same_begun o sent m
-same_offsets codecs.H264 o sent m n = same_begun o sent m
-same_offsets codecs.H265 o sent m n = same_begun o sent m
-same_offsets codecs.H266 o sent m n = same_begun o sent m
-same_offsets codecs.Vp9 o sent m n = same_begun o sent m
-same_offsets codecs.Av1 o sent m n = same_begun o sent m
-same_offsets codecs.Null o sent m n = same_begun o sent m
-same_offsets codecs.Tele o sent m n = same_begun o sent m
-same_offsets codecs.Rtx o sent m n = same_begun o sent m
-same_offsets codecs.Red o sent m n = same_begun o sent m
-same_offsets codecs.Unknown o sent m n = same_begun o sent m
+same_offsets codec o sent m n =
+    let same = same_sent_offsets o sent (record m { leaving = None }) in by_offsets codec m (after_picture o sent m) n same.0 same.1
 
-same_when : (ahead : Bool) (codec : Codec) (m : ℕ) (ids : Ids) (other : List ℕ) (n : ℕ) → offsets_for codec (ids_when ahead codec m other ids) n ≡ offsets_for codec ids n
-same_when true codec m ids other n = same_offsets codec (offsets_for codec ids m) (ids_in codec other) ids n
-same_when false codec m ids other n = refl
+same_when : (ahead latest : Bool) (codec : Codec) (m : ℕ) (ids : Ids) (other : List ℕ) (n : ℕ) → offsets_for codec (ids_when ahead latest codec m other ids) n ≡ offsets_for codec ids n
+same_when true latest codec m ids other n = same_offsets codec (offsets_for codec ids m) (ids_in codec other) ids n
+same_when false true codec m ids other n = same_late codec (offsets_for codec ids m) (ids_in codec other) ids n
+same_when false false codec m ids other n = refl
 
 pub repeats_what_was_sent : RepeatsWhatWasSent
 repeats_what_was_sent f now m n sent p q = (
   same_sent f.numbers m n,
   ap (λ (o : IdOffsets). sent_packet f.settings o sent ((p.header.timestamp + f.times.offset) % 4294967296) p)
-      (same_when (ltb f.numbers.highest m) f.settings.codec m f.ids q.payload n),
+      (same_when (ltb f.numbers.highest m) (ltb f.latest m) f.settings.codec m f.ids q.payload n),
 )

@@ -23,13 +23,14 @@ use Rattle.codec_payload_sending_forward.specs.declared.times.Retiming.{Retiming
 use Rattle.codec_payload_sending_forward.specs.Numbers.{HasNumber, Numbers, after_packet, begun, next_number, placed, sent_as}
 use Rattle.codec_payload_sending_forward.specs.declared.ids.IdOffsets.{IdOffsets}
 use Rattle.codec_payload_sending_forward.specs.declared.ids.PayloadIds.{PayloadIds}
-use Rattle.codec_payload_sending_forward.specs.Ids.{Ids, after_picture, first_ids, left_picture, offsets_at, offsets_switched, switched_ids}
+use Rattle.codec_payload_sending_forward.specs.Ids.{Ids, after_picture, after_sent, first_ids, left_picture, offsets_at, offsets_switched, switched_ids}
 use Rattle.codec_payload_sending_forward.specs.Vp8Numbers.{payload_as, vp8_ids}
 use Rattle.codec_payload_sending_forward.specs.Vp9Numbers.{vp9_ids, vp9_payload_as}
 use Rattle.codec_payload_sending_forward.specs.Times.{after_time, begun_times, switched_times, time_as}
 
 -- a forwarder: its settings; the source that is forwarded, and the one to go over to; the maps of numbers, times and ids; the
--- number of the next retransmission; and when the packet with the highest number was written
+-- number of the next retransmission; when the packet with the highest number was written; and the highest number of the source that was
+-- sent, above which packets may have been left out
 pub record Forward : Type 0 where
   pub settings : ForwardSettings
   pub source : Option ℕ
@@ -39,6 +40,7 @@ pub record Forward : Type 0 where
   pub ids : Ids
   pub next : ℕ
   pub written_at : Option ℕ
+  pub latest : ℕ
 
 abbrev pub codec_fits : Codec → Bool
 codec_fits codecs.H264 = false
@@ -52,7 +54,7 @@ forward_by s =
     if nat_lt 127 s.payload_type then Err errors.PayloadType
     else if not (stream_fits s.retransmissions) then Err errors.RetransmissionType
     else if not (codec_fits s.codec) then Err errors.Codec
-    else Ok (record { settings = s; source = None; wanted = None; numbers = begun 0 ((s.first_number + 65535) % 65536); times = begun_times 0 s.first_time; ids = first_ids; next = first_of s.retransmissions; written_at = None })
+    else Ok (record { settings = s; source = None; wanted = None; numbers = begun 0 ((s.first_number + 65535) % 65536); times = begun_times 0 s.first_time; ids = first_ids; next = first_of s.retransmissions; written_at = None; latest = 0 })
 
 abbrev pub is_source : Option ℕ → ℕ → Bool
 is_source None ssrc = false
@@ -165,16 +167,22 @@ first_packet now f p = sent_packet f.settings (offsets_switched f.ids (ids_in f.
 abbrev pub written_when : Bool → ℕ → Option ℕ → Option ℕ
 written_when ahead now last = if ahead then Some now else last
 
-abbrev pub ids_when : Bool → Codec → ℕ → List ℕ → Ids → Ids
-ids_when ahead codec n payload ids = if ahead then ids_after codec n payload ids else ids
+-- Below a packet that was left out a packet may still be the latest one that is sent: its ids are the last ones, and the picture that
+-- was left out stays so
+abbrev pub ids_late : (latest : Bool) → Codec → ℕ → List ℕ → Ids → Ids
+ids_late latest codec n payload ids = if latest then after_sent (offsets_for codec ids n) (ids_in codec payload) ids else ids
+
+abbrev pub ids_when : (ahead latest : Bool) → Codec → ℕ → List ℕ → Ids → Ids
+ids_when ahead latest codec n payload ids = if ahead then ids_after codec n payload ids else ids_late latest codec n payload ids
 
 -- a packet was written under its number
 abbrev pub after_written : (now number : ℕ) → Packet → Forward → Forward
 after_written now number p f = record f {
   numbers = after_packet number true f.numbers;
   times = after_time p.header.timestamp f.times;
-  ids = ids_when (nat_lt f.numbers.highest number) f.settings.codec number p.payload f.ids;
+  ids = ids_when (nat_lt f.numbers.highest number) (nat_lt f.latest number) f.settings.codec number p.payload f.ids;
   written_at = written_when (nat_lt f.numbers.highest number) now f.written_at;
+  latest = max f.latest number;
 }
 
 abbrev pub after_next : ℕ → Packet → Forward → Forward
@@ -187,6 +195,7 @@ after_begin now p f = record f {
   times = switched_times p.header.timestamp (ticks_between f.written_at now) f.times;
   ids = ids_switched f.settings.codec p.payload f.ids;
   written_at = Some now;
+  latest = 65536 + p.header.sequence_number;
 }
 
 -- nothing is written

@@ -1,5 +1,6 @@
 pub mod Counting
 pub mod Forwarding
+pub mod IdRuns
 pub mod Ids
 pub mod NumberRuns
 pub mod Numbers

@@ -100,6 +100,8 @@ pub struct Forwarder {
     next: u16,
     /// When the packet with the highest number was written.
     written_at: Option<u64>,
+    /// The highest number of the source that was sent. Packets above it may have been left out.
+    latest: u64,
     /// Memory for the payload of a packet of VP8 or VP9.
     payload: Vec<u8>,
 }
@@ -111,7 +113,7 @@ impl Model for Forwarder {
 
     ghost Value = { Forward };
 
-    ghost view = { λ f. record { settings = f.settings; source = f.source; wanted = f.wanted; numbers = f.numbers; times = f.times; ids = f.ids; next = f.next; written_at = f.written_at } };
+    ghost view = { λ f. record { settings = f.settings; source = f.source; wanted = f.wanted; numbers = f.numbers; times = f.times; ids = f.ids; next = f.next; written_at = f.written_at; latest = f.latest } };
 
     ghost invariant = { λ f. (f.settings.payload_type < 128) × IsTrue (stream_fits f.settings.retransmissions) };
 }
@@ -262,6 +264,7 @@ impl Forwarder {
             ids: ForwardedIds::new(alloc),
             next: first_of(settings.retransmissions),
             written_at: None,
+            latest: 0,
             payload: Vec::new(alloc),
         })
     }
@@ -376,7 +379,12 @@ impl Forwarder {
             let offsets = self.offsets_at(number);
             let ids = ids_in(self.settings.codec, packet.payload);
             self.ids.record(offsets, ids);
+        } else if number > self.latest {
+            let offsets = self.offsets_at(number);
+            let ids = ids_in(self.settings.codec, packet.payload);
+            self.ids.record_late(offsets, ids);
         }
+        self.latest = self.latest.max(number);
         self.numbers.record(number);
         self.times.record(packet.header.timestamp);
     }
@@ -470,8 +478,9 @@ impl Forwarder {
         let offsets = self.ids.offsets_switched(ids);
         self.write_as(offsets, Place { number, time }, packet, out)?;
         self.ids.switch(ids);
-        self.numbers
-            .switch(65_536 + u64::from(header.sequence_number));
+        let first = 65_536 + u64::from(header.sequence_number);
+        self.numbers.switch(first);
+        self.latest = first;
         self.times.switch(header.timestamp, ticks);
         self.source = Some(header.ssrc);
         self.written_at = Some(now);

@@ -3,7 +3,7 @@
 ghost use Rattle.std.specs.Prelude.{◌≡◌, ◌<◌, ◌∷◌, IfSome, None, OnErr, OnOk, Some, false, length, option_map, true};
 ghost use Rattle.codec_payload_base.specs.PictureIds.{FitsWidth, id_value};
 ghost use Rattle.codec_payload_sending_forward.specs.Numbers.{after_packet};
-ghost use Rattle.codec_payload_sending_forward.specs.Ids.{after_picture, first_ids, id_offset, id_to_leave, is_ahead, left_picture, moved_ids, moved_picture, offsets_at, offsets_switched, picture_closed, picture_replaced, switched_ids, tl0_offset};
+ghost use Rattle.codec_payload_sending_forward.specs.Ids.{after_picture, after_sent, first_ids, id_offset, id_to_leave, is_ahead, left_picture, moved_ids, moved_picture, offsets_at, offsets_switched, picture_closed, picture_replaced, switched_ids, tl0_offset};
 
 use crate::renumbering::{MAX_LEFT_OUT, Renumbering, count_above, replace_last};
 use codec_payload_base::picture_id::PictureId;
@@ -205,6 +205,14 @@ impl ForwardedIds {
         ensures { self.new ≡ after_picture offsets ids self.old }
     {
         self.leaving = None;
+        self.record_late(offsets, ids);
+    }
+
+    /// Records the same for a packet that is above all others that were sent, but not above all that were left out: its ids are the last
+    /// ones that were sent, and the picture that is left out above it stays so.
+    pub fn record_late(&mut self, offsets: IdOffsets, ids: Option<PayloadIds>)
+        ensures { self.new ≡ after_sent offsets ids self.old }
+    {
         if let Some(ids) = ids {
             let sent = ids.moved(offsets);
             self.picture = sent.picture().unwrap_or(self.picture);

@@ -1,6 +1,7 @@
 //! Theorems about the numbers, times and packets of a viewer's stream. These functions exist for what they prove; they do nothing.
 
 ghost use Rattle.codec_payload_sending_forward.specs.Forwarding.{RepeatsWhatWasSent};
+ghost use Rattle.codec_payload_sending_forward.specs.IdRuns.{FollowsLatestId, KeepsLatestId};
 ghost use Rattle.codec_payload_sending_forward.specs.NumberRuns.{KeepsGaps, KeepsNumbers, Renumbers, SendsGiven, SwitchesNext};
 ghost use Rattle.codec_payload_sending_forward.specs.Times.{NeverGoesBack, Retimes};
 ghost use Rattle.codec_payload_sending_forward.specs.Vp9Numbers.{MovesIds};
@@ -49,4 +50,12 @@ pub fn repeats_what_was_sent()
 /// fields moved, in their widths, and the same bytes after it.
 pub fn moves_vp9_ids()
     ensures { MovesIds }
+{}
+
+/// Proves for each sequence of calls: the last PictureID is the one of the packet that has the highest number of all that were sent.
+/// Packets may be lost, come late, or be left out above it. The first picture of the next source has the id after it, so no two
+/// pictures have one id.
+pub fn goes_on_behind_the_latest_picture()
+    ensures latest { KeepsLatestId }
+    ensures next { FollowsLatestId }
 {}

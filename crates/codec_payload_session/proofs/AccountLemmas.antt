@@ -30,7 +30,7 @@ use Rattle.codec_payload_session_requests.specs.Late.{limit_by}
 use Rattle.codec_payload_session_formats.specs.Names.{names_after}
 use Rattle.codec_payload_rtp.specs.RtpReading.{rtp_at}
 use Rattle.codec_payload_session_requests.specs.Requests.{Asking, heard_by, number_at, wait_by}
-use Rattle.codec_payload_session_stream.specs.Streams.{Drains, Follows, Plays, RequestsBy, RestsBy, Steps, StepsBy, Takes, end_of, heard_unless, is_accepted, is_no_memory, is_of, is_probation, late_followed, late_noted, left_when, payload_size, received, waiting_for, waiting_if, waiting_when, waiting_where}
+use Rattle.codec_payload_session_stream.specs.Streams.{Drains, Follows, Plays, RequestsBy, RestsBy, Steps, StepsBy, Takes, end_of, heard_unless, is_accepted, is_no_memory, is_of, is_probation, late_followed, late_noted, left_when, payload_size, received, trip_if, trip_when, trips_where, waiting_for, waiting_if, waiting_when, waiting_where}
 use Rattle.codec_payload_session_stream.specs.Turns.{AreQuiet}
 use Rattle.codec_payload_session.specs.Turns.{TakesTurn, ended_after, kept_after}
 use Rattle.codec_payload_session_formats.specs.declared.formats.Format.{Format}
@@ -303,6 +303,29 @@ pub waiting_keeps : (settings : SessionSettings) (c : ArrivalCounts) (ssrc paylo
 waiting_keeps settings c ssrc payload_type limits p kept = record {
   accounted = omega (arith, kept.accounted, taken_waiting ssrc payload_type limits p.streams);
   bounded = omega (arith, kept.bounded, length_waiting ssrc payload_type limits p.streams);
+}
+
+-- a stream whose round trip is set takes nothing
+taken_trip_if : (ssrc payload_type : ℕ) (round_trip : Option ℕ) (s : StreamState) → (trip_if ssrc payload_type round_trip s).taken ≡ s.taken
+taken_trip_if ssrc payload_type round_trip s = by_test (is_of ssrc payload_type s)
+  where
+    by_test : (b : Bool) → (trip_when b round_trip s).taken ≡ s.taken
+    by_test true = waiting_taken _ _
+    by_test false = refl
+
+taken_trips : (ssrc payload_type : ℕ) (round_trip : Option ℕ) (ss : List StreamState) → taken_in (trips_where ssrc payload_type round_trip ss) ≡ taken_in ss
+taken_trips ssrc payload_type round_trip [] = refl
+taken_trips ssrc payload_type round_trip (x ∷ xs) = omega (arith, taken_trip_if ssrc payload_type round_trip x, taken_trips ssrc payload_type round_trip xs)
+
+length_trips : (ssrc payload_type : ℕ) (round_trip : Option ℕ) (ss : List StreamState) → length (trips_where ssrc payload_type round_trip ss) ≡ length ss
+length_trips ssrc payload_type round_trip [] = refl
+length_trips ssrc payload_type round_trip (x ∷ xs) = ap suc (length_trips ssrc payload_type round_trip xs)
+
+pub trips_keep : (settings : SessionSettings) (c : ArrivalCounts) (ssrc payload_type : ℕ) (round_trip : Option ℕ) (p : Port) → IsPort settings p c
+    → IsPort settings (record p { streams = trips_where ssrc payload_type round_trip p.streams }) c
+trips_keep settings c ssrc payload_type round_trip p kept = record {
+  accounted = omega (arith, kept.accounted, taken_trips ssrc payload_type round_trip p.streams);
+  bounded = omega (arith, kept.bounded, length_trips ssrc payload_type round_trip p.streams);
 }
 
 -- a report is no datagram

@@ -39,7 +39,8 @@ use Rattle.codec_payload_session_stream.specs.declared.stream.Stage.{Stage}
 use Rattle.codec_payload_session_stream.specs.declared.stream.Stage.TheVariants as stages
 use Rattle.codec_payload_session_stream.specs.declared.stream.Step.TheVariants as steps
 use Rattle.codec_payload_session_stream.specs.declared.telephone.TelephonePacket.{TelephonePacket}
-use Rattle.codec_payload_session_stream.proofs.CalmLemmas.{due_later, updated_none}
+use Rattle.codec_payload_session_stream.proofs.CalmLemmas.{due_later}
+use Rattle.codec_payload_session_requests.proofs.IdleLemmas.{updated_none}
 use Rattle.codec_payload_session_stream.proofs.PopAgainLemmas.{pops_same}
 use Rattle.codec_payload_session_stream.proofs.SkipLemmas.{drops_few, earlier_both, once_few, receiver_rests, same_number, told_none}
 

@@ -9,7 +9,7 @@ use Rattle.codec_payload_jitter.specs.Receiving.{next}
 use Rattle.codec_payload_session.specs.Arrivals.{Port, TakesIn, left_where}
 use Rattle.codec_payload_session_formats.specs.Checks.{fault_of}
 use Rattle.codec_payload_session_stream.specs.Reports.{block_of, reported_by}
-use Rattle.codec_payload_session_stream.specs.Streams.{IsInfo, is_former, waiting_where}
+use Rattle.codec_payload_session_stream.specs.Streams.{IsInfo, is_former, trips_where, waiting_where}
 use Rattle.codec_payload_session_stream.specs.Telephone.{MayLackMemory, Queue, QueuesIf, empty_queue, is_without_media, telephone_at}
 use Rattle.codec_payload_session_requests.specs.Transports.{reporter_for, restarted_if}
 use Rattle.codec_payload_jitter.specs.declared.waiting.WaitLimits.{WaitLimits}
@@ -110,6 +110,9 @@ ends_of ssrc at s = record s { port = record s.port { streams = left_where (λ o
 
 abbrev pub waits_of : ℕ → ℕ → WaitLimits → Session → Session
 waits_of ssrc payload_type limits s = record s { port = record s.port { streams = waiting_where ssrc payload_type limits s.port.streams } }
+
+abbrev pub trips_of : ℕ → ℕ → Option ℕ → Session → Session
+trips_of ssrc payload_type round_trip s = record s { port = record s.port { streams = trips_where ssrc payload_type round_trip s.port.streams } }
 
 -- the transport begins again
 abbrev pub restarts_transport : Session → Session

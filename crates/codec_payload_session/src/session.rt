@@ -8,7 +8,7 @@ ghost use Rattle.codec_payload_session.specs.Accepting.{Accepts, time_for};
 ghost use Rattle.codec_payload_session.specs.Associations.{Associates};
 ghost use Rattle.codec_payload_session_formats.specs.Checks.{checked, fault_of};
 ghost use Rattle.codec_payload_session.specs.Idle.{IsIdle, held_in, next_of};
-ghost use Rattle.codec_payload_session.specs.Ports.{IsSum, MatchInfo, ReportsIf, counted, counted_if, counts_with, ends_all, ends_of, former_among, made_of, names_among, no_counts, receiver_among, restarts_transport, taken_in, waits_of};
+ghost use Rattle.codec_payload_session.specs.Ports.{IsSum, MatchInfo, ReportsIf, counted, counted_if, counts_with, ends_all, ends_of, former_among, made_of, names_among, no_counts, receiver_among, restarts_transport, taken_in, trips_of, waits_of};
 ghost use Rattle.codec_payload_session_stream.specs.Reports.{block_among, clock_among};
 ghost use Rattle.codec_payload_session.specs.Polls.{Polls, SendsReport, SendsTransport, TurnsOrReports, TurnsOrSends};
 ghost use Rattle.codec_payload_session.specs.Renegotiation.{SetsFormats, with_formats};
@@ -418,6 +418,15 @@ impl Session {
     {
         self.streams
             .set_wait_limits(ssrc, payload_type, wait_limits);
+    }
+
+    /// Sets the round trip of the stream with this SSRC and payload type, in ticks, as reports measured it: extended reports (RFC 3611),
+    /// or the checks of ICE (RFC 8445). From now on the times of its requests and its waits follow it, in place of the answers to
+    /// requests: call it when the stream begins, and with each report. `None`: the answers count. Without such a stream nothing changes.
+    pub fn set_round_trip(&mut self, ssrc: u32, payload_type: u8, round_trip: Option<u64>)
+        ensures { self.new ≡ trips_of ssrc payload_type round_trip self.old }
+    {
+        self.streams.set_round_trip(ssrc, payload_type, round_trip);
     }
 
     /// Returns the block of a receiver report about the sender of the stream with this SSRC and payload type (RFC 3550, section

@@ -7,7 +7,7 @@ ghost use Rattle.codec_payload_base.specs.Answers.{Finds};
 ghost use Rattle.codec_payload_rtcp.specs.RtcpReading.{compound_at, packets_left};
 ghost use Rattle.codec_payload_session_stream.specs.Reports.{noted_where};
 ghost use Rattle.codec_payload_session_formats.specs.Sorting.{sorted_packet, sorted_rtcp};
-ghost use Rattle.codec_payload_session_stream.specs.Streams.{due_in, is_of, waiting_if, waiting_where};
+ghost use Rattle.codec_payload_session_stream.specs.Streams.{due_in, is_of, trip_if, trips_where, waiting_if, waiting_where};
 ghost use Rattle.codec_payload_session_stream.specs.Turns.{StepsFirst};
 ghost use Rattle.codec_payload_session.specs.Turns.{TakesTurn, after_step, told_by};
 ghost use Rattle.codec_payload_session.specs.Arrivals.{BeginsIf, BeginsOrFeeds, Feeds, TakesIn, TakesInAs, added, has_place, has_ssrc, includes, leaving, left_if, left_where, on_probation, removed, say_goodbye, TakesMedia};
@@ -546,6 +546,14 @@ impl Streams {
         set_wait_limits(&mut self.list, ssrc, payload_type, wait_limits);
     }
 
+    /// Sets the round trip that reports measured, for the stream with this SSRC and payload type.
+    pub(crate) fn set_round_trip(&mut self, ssrc: u32, payload_type: u8, round_trip: Option<u64>)
+        ensures { self.new ≡ record self.old { streams = trips_where ssrc payload_type round_trip self.old.streams } }
+    {
+        self.waking.forget();
+        set_round_trip(&mut self.list, ssrc, payload_type, round_trip);
+    }
+
     /// Returns the report block about the sender of the stream with this SSRC and payload type.
     pub(crate) fn report(
         &mut self,
@@ -667,6 +675,15 @@ fn set_wait_limits(
 {
     for place in 0..streams.len() {
         streams[place].wait_if(ssrc, payload_type, wait_limits);
+    }
+}
+
+/// Sets the round trip of the stream with this SSRC and payload type.
+fn set_round_trip(streams: &mut [StreamState], ssrc: u32, payload_type: u8, round_trip: Option<u64>)
+    ensures { streams.new ≡ trips_where ssrc payload_type round_trip streams.old }
+{
+    for place in 0..streams.len() {
+        streams[place].set_round_trip_if(ssrc, payload_type, round_trip);
     }
 }
 

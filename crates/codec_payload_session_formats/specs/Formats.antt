@@ -175,8 +175,8 @@ pub record IsLiveFeedback (ssrc : ℕ) (name : List ℕ) (f : FeedbackSettings) 
   pub cname : f.cname.items ≡ name
   pub has_report : f.has_report ≡ false
   pub nack : f.nack ≡ live_nack
-  pub keyframe_interval : f.keyframe_interval ≡ 500
+  pub keyframe_interval : f.keyframe_interval ≡ 100
   pub silence : f.silence ≡ 2000
-  pub longest_wait : f.longest_wait ≡ Some 800
+  pub longest_wait : f.longest_wait ≡ Some 1500
   pub report_interval : f.report_interval ≡ Some 1000
   pub max_report : f.max_report ≡ 1200

@@ -1,1 +1,2 @@
+pub mod IdleLemmas
 mod NamedLemmas

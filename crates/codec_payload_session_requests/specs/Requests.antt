@@ -3,10 +3,11 @@ use Rattle.std.specs.Prelude.{◌≡◌, ◌⊎◌, ℕ, ◌+◌, ◌-◌, ◌*�
 use Rattle.std.specs.Global.{Vec}
 use Rattle.std.specs.Option.{option_map}
 use Rattle.std.specs.declared.alloc.AllocError.{AllocError}
-use Rattle.codec_payload_feedback.specs.Feedback.{IsFeedback, Requests, Source, after_answered, after_feedback, deadline_of, is_idle, keyframe_is_due, new_requests, numbers_due, updated, wanting}
+use Rattle.codec_payload_feedback.specs.Feedback.{IsFeedback, Requests, Source, after_answered, after_feedback, deadline_of, is_idle, keyframe_is_due, new_requests, numbers_due, reporting, updated, wanting}
 use Rattle.codec_payload_feedback.specs.declared.requests.RequestCounts.{RequestCounts}
 use Rattle.codec_payload_jitter.specs.Missing.{missing_numbers}
-use Rattle.codec_payload_feedback_requests.specs.NackSchedule.{requested_by}
+use Rattle.codec_payload_feedback_requests.specs.NackSchedule.{requested_by, sure_answer_time}
+use Rattle.codec_payload_feedback_requests.specs.RoundTrips.{known_trip}
 use Rattle.codec_payload_feedback_requests.specs.declared.nack.NackSettings.{NackSettings}
 use Rattle.codec_payload_rtp.specs.RtpPackets.{Packet}
 use Rattle.codec_payload_rtp.specs.RtpReading.{rtp_at}
@@ -39,44 +40,54 @@ pub record Asking : Type 0 where
 abbrev pub source_for : FeedbackSettings → Source
 source_for f = record { ssrc = f.ssrc; cname = take 255 f.cname.items; has_report = f.has_report }
 
--- waiting follows the round trip between the stream's own limit and the longest wait
-abbrev pub range_by : ℕ → Option ℕ → (is_patient : Bool) → Option ℕ → Option WaitRange
-range_by first None patient least = None
-range_by first (Some most) patient None = None
-range_by first (Some most) patient (Some least) = Some (record { first = first; least = least; most = most; is_patient = patient })
-
-abbrev pub range_for : FeedbackSettings → (is_patient : Bool) → Option ℕ → Option WaitRange
-range_for f patient max_wait = range_by f.nack.first_wait f.longest_wait patient max_wait
-
--- video whose missing packets are requested waits for the first answer
+-- video whose missing packets are requested waits for the first answers
 abbrev pub is_patient : Format → Bool
 is_patient f = f.nack && is_video f.spec.codec
 
--- a format whose streams wait by the round trip
-abbrev pub follows_by : Waiting → Bool
-follows_by waitings.Fixed = false
-follows_by waitings.RoundTrip = true
-follows_by waitings.Late = false
+-- how long a frame of the format waits at most: the longest wait where waiting follows the round trip, else the stream's own limit. None:
+-- there is none, or waiting follows how late packets arrive
+abbrev pub longest_by : Waiting → Option ℕ → Option ℕ → Option ℕ
+longest_by waitings.Fixed longest max_wait = max_wait
+longest_by waitings.RoundTrip None max_wait = max_wait
+longest_by waitings.RoundTrip (Some most) None = None
+longest_by waitings.RoundTrip (Some most) (Some least) = Some (max most least)
+longest_by waitings.Late longest max_wait = None
 
-abbrev pub follows_round_trip : Format → Bool
-follows_round_trip f = follows_by f.wait
+abbrev pub longest_for : FeedbackSettings → Format → Option ℕ → Option ℕ
+longest_for f format max_wait = longest_by format.wait f.longest_wait max_wait
 
-abbrev pub range_if : Bool → Option WaitRange → Option WaitRange
-range_if true range = range
-range_if false range = None
+-- at most a quarter of the wait between two requests of a number, so that four leave in that time; but not less than the shortest retry
+abbrev pub fitted : NackSettings → Option ℕ → NackSettings
+fitted n None = n
+fitted n (Some wait) = record n { retry = min n.retry (max n.shortest_retry (wait / 4)); longest_retry = min n.longest_retry (max n.shortest_retry (wait / 4)) }
 
 -- two requests of a number are at least one tick apart, so that a loop of polls at one moment ends
 abbrev pub spaced : NackSettings → NackSettings
 spaced n = record n { retry = max 1 n.retry; shortest_retry = max 1 n.shortest_retry; longest_retry = max 1 n.longest_retry }
 
+-- when a stream of the format requests a missing packet
+abbrev pub nack_for : FeedbackSettings → Format → Option ℕ → NackSettings
+nack_for f format max_wait = spaced (fitted f.nack (longest_for f format max_wait))
+
+-- waiting follows the round trip between the stream's own limit and the longest wait, if the format says so
+abbrev pub range_by : Waiting → Option ℕ → (is_patient : Bool) → Option ℕ → Option WaitRange
+range_by waitings.Fixed longest patient least = None
+range_by waitings.Late longest patient least = None
+range_by waitings.RoundTrip None patient least = None
+range_by waitings.RoundTrip (Some most) patient None = None
+range_by waitings.RoundTrip (Some most) patient (Some least) = Some (record { least = least; most = most; is_patient = patient })
+
+abbrev pub range_for : FeedbackSettings → Format → Option ℕ → Option WaitRange
+range_for f format max_wait = range_by format.wait f.longest_wait (is_patient format) max_wait
+
 abbrev pub asking_for : FeedbackSettings → ℕ → Format → Option ℕ → Asking
 asking_for f ssrc format max_wait = record {
   source = source_for f;
-  requests = new_requests ssrc (spaced f.nack) (max 1 f.keyframe_interval);
+  requests = new_requests ssrc (nack_for f format max_wait) (max 1 f.keyframe_interval);
   most = if format.nack then f.nack.capacity else 0;
   pli = format.pli;
   silence = f.silence;
-  waits = range_if (follows_round_trip format) (range_for f (is_patient format) max_wait);
+  waits = range_for f format max_wait;
   asked = false;
 }
 
@@ -164,10 +175,15 @@ abbrev pub request_counts_of : Option Asking → RequestCounts
 request_counts_of None = record { numbers = 0; keyframes = 0 }
 request_counts_of (Some a) = a.requests.counts
 
--- the measured round trip, of which eight times is kept
+-- the round trip: what extended reports say, or else the median of the latest answers
 abbrev pub round_trip_of : Option Asking → Option ℕ
 round_trip_of None = None
-round_trip_of (Some a) = option_map (λ eighths. eighths / 8) a.requests.nack.round_trip
+round_trip_of (Some a) = known_trip a.requests.nack.trip
+
+-- extended reports say this round trip
+abbrev pub reported_by : Option ℕ → Option Asking → Option Asking
+reported_by round_trip None = None
+reported_by round_trip (Some a) = Some (record a { requests = reporting round_trip a.requests })
 
 -- ---- a keyframe that the caller asks for
 
@@ -195,19 +211,16 @@ answered_if keyframe (Some a) = Some (record a { asked = a.asked && not keyframe
 
 -- ---- waiting
 
--- the first wait and four round trips, at most the longest wait, and at least the stream's own limit
-abbrev pub wait_within : WaitRange → ℕ → ℕ
-wait_within range round_trip = max (min (round_trip * 4 + range.first) range.most) range.least
-
+-- until the last request of a number is answered, if the round trip is sure: at most the longest wait, and at least the stream's own
+-- limit. Until then the longest wait in a stream that waits for the first answers
 abbrev pub wait_for : Option WaitRange → Option ℕ → Option ℕ
-wait_for None round_trip = None
+wait_for None answer_time = None
 wait_for (Some range) None = if range.is_patient then Some (max range.most range.least) else None
-wait_for (Some range) (Some round_trip) = Some (wait_within range round_trip)
+wait_for (Some range) (Some answer_time) = Some (max (min answer_time range.most) range.least)
 
--- how long a frame may wait: by the round trip once it is known, and until then the longest wait in a stream that waits for the
--- first answer
+-- how long a frame may wait
 abbrev pub wait_of : Asking → Option ℕ
-wait_of a = wait_for a.waits (option_map (λ eighths. eighths / 8) a.requests.nack.round_trip)
+wait_of a = wait_for a.waits (sure_answer_time a.requests.nack)
 
 abbrev pub wait_by : Option Asking → Option ℕ
 wait_by None = None

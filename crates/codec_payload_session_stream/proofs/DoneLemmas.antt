@@ -27,7 +27,7 @@ use Rattle.codec_payload_session_stream.specs.Quiet.{AsksNothing, IsQuietUntil, 
 use Rattle.codec_payload_session_stream.specs.Streams.{StreamState, earlier, request_deadline}
 use Rattle.codec_payload_session_stream.specs.declared.stream.Stage.{Stage}
 use Rattle.codec_payload_session_stream.specs.declared.stream.Stage.TheVariants as stages
-use Rattle.codec_payload_session_stream.proofs.CalmLemmas.{asks_none, idle_is}
+use Rattle.codec_payload_session_requests.proofs.IdleLemmas.{asks_none, idle_is}
 use Rattle.codec_payload_session_stream.proofs.RestLemmas.{as_settled, counted_twice, never_overdue}
 
 both : (a b : Bool) → (a && b) ≡ true → (a ≡ true) × (b ≡ true)

@@ -1,11 +1,11 @@
 -- Requests that are updated again with the same missing numbers stay, and before their deadline none is due.
-use Rattle.std.proofs.Common.{◌≡◌, ◌∙◌, refl, ap, sym, subst, ℕ, ◌<◌, ◌==◌, ◌&&◌, List, [], ◌∷◌, ◌++◌, Bool, true, false, cond, Option, Some, None, map, filter, unwrap_or, append_assoc, arith}
+use Rattle.std.proofs.Common.{◌≡◌, ◌∙◌, refl, ap, sym, subst, ℕ, ◌<◌, ◌==◌, ◌&&◌, List, [], ◌∷◌, ◌++◌, Bool, true, false, cond, Option, Some, None, map, filter, unwrap_or, append_assoc, arith, max}
 use Rattle.std.specs.Prelude.{nat_le}
 use Rattle.std.proofs.lemmas.Bool.{eqb-true}
 use Rattle.std.proofs.lemmas.Bool.Decides.{nat_tests}
 use Rattle.codec_payload_feedback.specs.declared.requests.RequestCounts.{RequestCounts}
-use Rattle.codec_payload_feedback.specs.Feedback.{Requests, after_feedback, counted, deadline_of, has_any, keyframe_is_due, numbers_due, updated}
-use Rattle.codec_payload_feedback_requests.specs.KeyframeRequests.{after_request, deadline_of as keyframe_deadline, is_due as is_keyframe_due}
+use Rattle.codec_payload_feedback.specs.Feedback.{Requests, after_feedback, counted, deadline_of, has_any, keyframe_is_due, keyframe_pause, numbers_due, updated}
+use Rattle.codec_payload_feedback_requests.specs.KeyframeRequests.{after_pause, deadline_of as keyframe_deadline, is_due as is_keyframe_due}
 use Rattle.codec_payload_feedback_requests.specs.NackSchedule.{earliest_of, followed, is_due, kept_or_new, low_bits, new_request, numbers_of, refreshed_with, request_of, retry_time, tried, tried_if_due, tried_in}
 use Rattle.codec_payload_feedback_requests.specs.Requests.{earlier, has_come, later}
 use Rattle.codec_payload_feedback_requests.specs.declared.keyframe.KeyframeRequests.{KeyframeRequests}
@@ -72,14 +72,14 @@ pending_again settings retry now at rs ns =
     subst (λ (l : List PendingRequest). refreshed_with settings at ns l ≡ l) (sym (tried_each settings retry now rs ns))
     (again_from settings at (requested settings retry now rs) (requested_number settings retry now rs) [] ns)
 
-wanted_again : (now : ℕ) (wanted : Bool) (k : KeyframeRequests)
-    → record (after_request now (record k { wanted = wanted })) { wanted = wanted } ≡ after_request now (record k { wanted = wanted })
-wanted_again now wanted k = by_test (is_keyframe_due now (record k { wanted = wanted }))
+wanted_again : (now pause : ℕ) (wanted : Bool) (k : KeyframeRequests)
+    → record (after_pause now pause (record k { wanted = wanted })) { wanted = wanted } ≡ after_pause now pause (record k { wanted = wanted })
+wanted_again now pause wanted k = by_test (is_keyframe_due now (record k { wanted = wanted }))
   where
     w : KeyframeRequests
     w = record k { wanted = wanted }
 
-    by_test : (b : Bool) → record (cond b (record w { next = later now k.interval }) w) { wanted = wanted } ≡ cond b (record w { next = later now k.interval }) w
+    by_test : (b : Bool) → record (cond b (record w { next = later now (max k.interval pause) }) w) { wanted = wanted } ≡ cond b (record w { next = later now (max k.interval pause) }) w
     by_test true = refl
     by_test false = refl
 
@@ -89,8 +89,8 @@ updated_again now at missing wanted q =
     let s : NackSettings = q.nack.settings in
     let t : Requests = after_feedback now (updated now missing wanted q) in
     ap (λ (rs : List PendingRequest). record t { nack = record t.nack { pending = rs }; keyframes = record t.keyframes { wanted = wanted } })
-    (pending_again s (retry_time s q.nack.round_trip) now at q.nack.pending (followed s missing))
-    ∙ ap (λ (k : KeyframeRequests). record t { keyframes = k }) (wanted_again now wanted q.keyframes)
+    (pending_again s (retry_time s q.nack.trip) now at q.nack.pending (followed s missing))
+    ∙ ap (λ (k : KeyframeRequests). record t { keyframes = k }) (wanted_again now (keyframe_pause q) wanted q.keyframes)
 
 -- ---- before the deadline
 
@@ -137,10 +137,10 @@ counted_none numbers keyframe c no_numbers no_keyframe = rw (no_numbers, no_keyf
 pub nothing_sent : (now : ℕ) (q : Requests) → IsBefore (deadline_of q) now → after_feedback now q ≡ q
 nothing_sent now q before =
     let both = earlier_both (earliest_of q.nack.pending) (keyframe_deadline q.keyframes) now before in
-    let kept : after_request now q.keyframes ≡ q.keyframes =
-    ap (λ (b : Bool). cond b (record q.keyframes { next = later now q.keyframes.interval }) q.keyframes) (no_keyframe_due now q.keyframes both.1) in
+    let kept : after_pause now (keyframe_pause q) q.keyframes ≡ q.keyframes =
+    ap (λ (b : Bool). cond b (record q.keyframes { next = later now (max q.keyframes.interval (keyframe_pause q)) }) q.keyframes) (no_keyframe_due now q.keyframes both.1) in
     let numbers : numbers_due now q ≡ [] = ap (λ (rs : List PendingRequest). map low_bits (numbers_of rs)) (none_due now q.nack.pending both.0) in
     let counts : counted (numbers_due now q) (keyframe_is_due now q) q.counts ≡ q.counts = counted_none (numbers_due now q) (keyframe_is_due now q) q.counts numbers (no_keyframe_due now q.keyframes both.1) in
-    ap (λ (rs : List PendingRequest). record q { nack = record q.nack { pending = rs }; keyframes = after_request now q.keyframes; counts = counted (numbers_due now q) (keyframe_is_due now q) q.counts })
-    (none_tried q.nack.settings.tries (retry_time q.nack.settings q.nack.round_trip) now q.nack.pending both.0)
+    ap (λ (rs : List PendingRequest). record q { nack = record q.nack { pending = rs }; keyframes = after_pause now (keyframe_pause q) q.keyframes; counts = counted (numbers_due now q) (keyframe_is_due now q) q.counts })
+    (none_tried q.nack.settings.tries (retry_time q.nack.settings q.nack.trip) now q.nack.pending both.0)
     ∙ (ap (λ (k : KeyframeRequests). record q { keyframes = k; counts = counted (numbers_due now q) (keyframe_is_due now q) q.counts }) kept ∙ ap (λ (c : RequestCounts). record q { counts = c }) counts)

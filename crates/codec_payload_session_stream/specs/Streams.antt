@@ -26,7 +26,7 @@ use Rattle.codec_payload_rtp.specs.declared.rtp.RtpError.{RtpError}
 use Rattle.codec_payload_session_formats.specs.Formats.{HasSettings, is_video, limits_for}
 use Rattle.codec_payload_session_requests.specs.Late.{late_after, late_for, limit_by, number_at as late_number}
 use Rattle.codec_payload_session_formats.specs.Names.{are_of_one, names_after, no_names}
-use Rattle.codec_payload_session_requests.specs.Requests.{Asking, Asks, answer_by, answered_if, asked_by, feedback_by, heard_by, is_heard, number_at, request_counts_of, requests_due, round_trip_of, wait_by}
+use Rattle.codec_payload_session_requests.specs.Requests.{Asking, Asks, answer_by, answered_if, asked_by, feedback_by, heard_by, is_heard, number_at, reported_by, request_counts_of, requests_due, round_trip_of, wait_by}
 use Rattle.codec_payload_session_formats.specs.declared.formats.Format.{Format}
 use Rattle.codec_payload_session_formats.specs.declared.formats.SessionSettings.{SessionSettings}
 use Rattle.codec_payload_session_requests.specs.declared.requests.KeyframeAnswer.{KeyframeAnswer}
@@ -208,6 +208,17 @@ waiting_if ssrc payload_type limits s = waiting_when (is_of ssrc payload_type s)
 
 abbrev pub waiting_where : ℕ → ℕ → WaitLimits → List StreamState → List StreamState
 waiting_where ssrc payload_type limits ss = map (waiting_if ssrc payload_type limits) ss
+
+-- reports say this round trip of the stream with this SSRC and payload type, and waiting follows it
+abbrev pub trip_when : Bool → Option ℕ → StreamState → StreamState
+trip_when true round_trip s = following (record s { feedback = reported_by round_trip s.feedback })
+trip_when false round_trip s = s
+
+abbrev pub trip_if : ℕ → ℕ → Option ℕ → StreamState → StreamState
+trip_if ssrc payload_type round_trip s = trip_when (is_of ssrc payload_type s) round_trip s
+
+abbrev pub trips_where : ℕ → ℕ → Option ℕ → List StreamState → List StreamState
+trips_where ssrc payload_type round_trip ss = map (trip_if ssrc payload_type round_trip) ss
 
 -- why the stream ends at this time, if it does
 abbrev pub end_by : ℕ → ℕ → ℕ → Stage → Option Ending

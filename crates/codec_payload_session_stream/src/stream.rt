@@ -9,7 +9,7 @@ ghost use Rattle.codec_payload_session_stream.specs.Pairs.{paired_if};
 ghost use Rattle.codec_payload_session_stream.specs.Quiet.{RestsUntil, is_done};
 ghost use Rattle.codec_payload_session_requests.specs.Requests.{IsCalm, wait_by};
 ghost use Rattle.codec_payload_rtp.specs.RtpReading.{rtp_at};
-ghost use Rattle.codec_payload_session_stream.specs.Streams.{Begins, Drains, IsInfo, Pops, RequestsBy, RestsBy, Steps, Takes, answer_for, asked_for, due_of, end_of, heard, heard_unless, is_accepted, is_ending, is_former, is_keyframe, is_no_memory, is_of, is_probation, late_followed, left, left_when, payload_size, received, step_of, step_with, waiting_for, waiting_if, work_deadline};
+ghost use Rattle.codec_payload_session_stream.specs.Streams.{Begins, Drains, IsInfo, Pops, RequestsBy, RestsBy, Steps, Takes, answer_for, asked_for, due_of, end_of, heard, heard_unless, is_accepted, is_ending, is_former, is_keyframe, is_no_memory, is_of, is_probation, late_followed, left, left_when, payload_size, received, step_of, step_with, trip_if, waiting_for, waiting_if, work_deadline};
 ghost use Rattle.codec_payload_session_stream.specs.Turns.{is_nothing};
 ghost use Rattle.codec_payload_session_stream.specs.Units.{step_to};
 ghost use Rattle.codec_payload_session_stream.specs.Waking.{WakesAt, or_max};
@@ -37,7 +37,7 @@ use codec_payload_session_requests::late::{follow, late_for, limit_by};
 use codec_payload_session_requests::named::NamedReceiver;
 use codec_payload_session_requests::requests::{
     Feedback, KeyframeAnswer, answer_if, are_idle, ask_keyframe, hear, request_counts,
-    requests_due, rest_time, round_trip, wait_by,
+    requests_due, rest_time, round_trip, set_reported, wait_by,
 };
 use std::alloc::{AllocError, Global};
 use std::marker::Model;
@@ -86,7 +86,8 @@ pub struct StreamInfo {
     pub held: usize,
     /// The outcomes of its datagrams.
     pub counters: Counters,
-    /// The measured round-trip time in ticks, once a request of the session was answered.
+    /// The round-trip time in ticks: what extended reports say (RFC 3611), or else the median of the latest five answers to requests of
+    /// the session. `None`: neither came.
     pub round_trip: Option<u64>,
     /// How many missing packets and keyframes the session requested.
     pub requests: RequestCounts,
@@ -303,7 +304,7 @@ impl StreamState {
         }
     }
 
-    /// Waits for as long as the round trip asks for, if waiting follows it and it is known.
+    /// Waits for as long as the round trip asks for, if waiting follows it and it is sure.
     #[inline(always)]
     fn follow_round_trip(&mut self)
         ensures { self.new ≡ waiting_for (wait_by self.old.feedback) self.old }
@@ -405,6 +406,18 @@ impl StreamState {
         if self.is_of(ssrc, payload_type) {
             self.quiet_until = 0;
             self.receiver.set_wait_limits(wait_limits);
+        }
+    }
+
+    /// Sets the round trip that reports measured, in ticks, and waits by it, if the stream has this SSRC and payload type. `None`: the
+    /// answers to requests count.
+    pub fn set_round_trip_if(&mut self, ssrc: u32, payload_type: u8, round_trip: Option<u64>)
+        ensures { self.new ≡ trip_if ssrc payload_type round_trip self.old }
+    {
+        if self.is_of(ssrc, payload_type) {
+            self.quiet_until = 0;
+            set_reported(&mut self.feedback, round_trip);
+            self.follow_round_trip();
         }
     }
 

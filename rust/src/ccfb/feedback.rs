@@ -107,10 +107,10 @@ impl core::error::Error for CcfbError {}
 /// Returns whether each metric has a spelling: ECN bits up to 3, and offsets below 8,192.
 fn metrics_fit(metrics: &[Option<PacketMetric>]) -> bool {
     for metric in metrics {
-        if let Some(metric) = metric
-            && (metric.ecn > 3 || metric.offset > 8_191)
-        {
-            return false;
+        if let Some(metric) = metric {
+            if metric.ecn > 3 || metric.offset > 8_191 {
+                return false;
+            }
         }
     }
     true

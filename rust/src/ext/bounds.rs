@@ -2,6 +2,7 @@
 
 use crate::{BitReader, CodecDepacketizer, CodecPacketizer, DepacketizingBuffer, Payloads};
 
+#[allow(dead_code)] // rustc 1.85 does not see the calls in a constant without a name
 const fn may_move_and_be_shared<T: Send + Sync>() {}
 
 const _: () = {

@@ -105,6 +105,8 @@ pub struct Forwarder {
     next: u16,
     /// When the packet with the highest number was written.
     written_at: Option<u64>,
+    /// The highest number of the source that was sent. Packets above it may have been left out.
+    latest: u64,
     /// Memory for the payload of a packet of VP8 or VP9.
     payload: Vec<u8>,
 }
@@ -229,6 +231,7 @@ impl Forwarder {
             ids: ForwardedIds::new(),
             next: first_of(settings.retransmissions),
             written_at: None,
+            latest: 0,
             payload: Vec::new(),
         })
     }
@@ -322,7 +325,12 @@ impl Forwarder {
             let offsets = self.offsets_at(number);
             let ids = ids_in(self.settings.codec, packet.payload);
             self.ids.record(offsets, ids);
+        } else if number > self.latest {
+            let offsets = self.offsets_at(number);
+            let ids = ids_in(self.settings.codec, packet.payload);
+            self.ids.record_late(offsets, ids);
         }
+        self.latest = self.latest.max(number);
         self.numbers.record(number);
         self.times.record(packet.header.timestamp);
     }
@@ -394,8 +402,9 @@ impl Forwarder {
         let offsets = self.ids.offsets_switched(ids);
         self.write_as(offsets, Place { number, time }, packet, out)?;
         self.ids.switch(ids);
-        self.numbers
-            .switch(65_536 + u64::from(header.sequence_number));
+        let first = 65_536 + u64::from(header.sequence_number);
+        self.numbers.switch(first);
+        self.latest = first;
         self.times.switch(header.timestamp, ticks);
         self.source = Some(header.ssrc);
         self.written_at = Some(now);

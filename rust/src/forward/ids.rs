@@ -160,6 +160,12 @@ impl ForwardedIds {
     /// Records that a payload with these ids was sent, moved by these offsets, and that its packet is above all others.
     pub fn record(&mut self, offsets: IdOffsets, ids: Option<PayloadIds>) {
         self.leaving = None;
+        self.record_late(offsets, ids);
+    }
+
+    /// Records the same for a packet that is above all others that were sent, but not above all that were left out: its ids are the last
+    /// ones that were sent, and the picture that is left out above it stays so.
+    pub fn record_late(&mut self, offsets: IdOffsets, ids: Option<PayloadIds>) {
         if let Some(ids) = ids {
             let sent = ids.moved(offsets);
             self.picture = sent.picture().unwrap_or(self.picture);

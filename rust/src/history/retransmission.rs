@@ -518,12 +518,12 @@ fn raise_once(packets: &mut VecDeque<SentPacket>, limit: usize) {
 
 /// Takes the last of `limit` places away, and returns its memory.
 fn last_memory(packets: &mut VecDeque<SentPacket>, limit: usize) -> Vec<u8> {
-    if packets.len() >= limit
-        && let Some(mut last) = packets.pop_back()
-    {
-        packets.truncate(limit - 1);
-        last.bytes.clear();
-        return last.bytes;
+    if packets.len() >= limit {
+        if let Some(mut last) = packets.pop_back() {
+            packets.truncate(limit - 1);
+            last.bytes.clear();
+            return last.bytes;
+        }
     }
     Vec::new()
 }

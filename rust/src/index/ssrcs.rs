@@ -168,7 +168,7 @@ fn seek(entries: &[Entry], hints: &mut Vec<u32>, ssrc: u32) -> usize {
 fn seek_anew(entries: &[Entry], hints: &mut Vec<u32>, slot: usize, ssrc: u32) -> usize {
     let near = search(entries, ssrc, 0);
     if let Some(hint) = hints.get_mut(slot) {
-        *hint = (near % 4_294_967_296) as u32;
+        *hint = (near as u64 % 4_294_967_296) as u32;
     }
     near
 }

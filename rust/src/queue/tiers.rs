@@ -195,10 +195,10 @@ impl<T: Numbered> TieredQueue<T> {
     /// the number is from the last number. Then it searches.
     #[inline(never)]
     fn place_inside(&self, number: u64) -> usize {
-        if let Some(item) = self.front()
-            && number <= item.number()
-        {
-            return 0;
+        if let Some(item) = self.front() {
+            if number <= item.number() {
+                return 0;
+            }
         }
         if let Some(place) = self.place_by_distance(number) {
             return place;

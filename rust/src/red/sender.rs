@@ -149,10 +149,10 @@ fn depth_of(distances: &[u32]) -> usize {
 
 /// Removes the oldest payload if the history holds more than `depth`, and returns its memory.
 fn take_past(history: &mut VecDeque<SentPayload>, depth: usize) -> Vec<u8> {
-    if history.len() > depth
-        && let Some(oldest) = history.pop_back()
-    {
-        return oldest.bytes;
+    if history.len() > depth {
+        if let Some(oldest) = history.pop_back() {
+            return oldest.bytes;
+        }
     }
     Vec::new()
 }

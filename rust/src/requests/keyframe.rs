@@ -47,6 +47,15 @@ impl KeyframeRequests {
         true
     }
 
+    /// Does the same where an answer takes longer than `interval`: the next request follows at least `pause` ticks later, too.
+    pub fn take_due_after(&mut self, now: Ticks, pause: u64) -> bool {
+        if !self.is_due(now.0) {
+            return false;
+        }
+        self.next = now.0.checked_add(self.interval.max(pause));
+        true
+    }
+
     /// Whether a request is due at that moment.
     fn is_due(&self, now: u64) -> bool {
         match self.next {

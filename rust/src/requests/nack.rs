@@ -3,6 +3,7 @@
 //! When to request missing packets (generic NACK: RFC 4585, section 6.2.1).
 
 use crate::memory::{AllocError, TryVec};
+use crate::requests::round_trip::RoundTrip;
 use crate::wire::Ticks;
 use alloc::vec::Vec;
 use core::mem::swap;
@@ -23,7 +24,7 @@ pub struct NackSettings {
     pub longest_retry: u64,
     /// How often a number is requested at most. 6 by default. With 0 nothing is requested.
     pub tries: u32,
-    /// How many missing numbers are followed at most: the lowest. 1,024 by default. One takes 40 bytes, twice.
+    /// How many missing numbers are followed at most: the lowest. 1,024 by default. One takes 48 bytes, twice.
     pub capacity: usize,
 }
 
@@ -39,6 +40,24 @@ impl NackSettings {
             capacity: 1_024,
         }
     }
+
+    /// Returns the number of ticks between two requests of a number at this round trip: 9/8 of it and half of `first_wait`, so that an
+    /// answer that is a little late comes before the next request, within `shortest_retry` and `longest_retry`.
+    pub fn retry_for(&self, round_trip: u64) -> u64 {
+        round_trip
+            .saturating_add(round_trip / 8)
+            .saturating_add(self.first_wait / 2)
+            .max(self.shortest_retry)
+            .min(self.longest_retry)
+    }
+
+    /// Returns the number of ticks from the moment that a number is first reported missing until its last request is answered, if two
+    /// requests are `retry` ticks apart: `first_wait`, and `tries` times `retry`. 2^64 - 1 if it is longer.
+    pub fn answer_time(&self, retry: u64) -> u64 {
+        retry
+            .saturating_mul(u64::from(self.tries))
+            .saturating_add(self.first_wait)
+    }
 }
 
 /// A missing number, and when it is requested.
@@ -51,6 +70,8 @@ pub(crate) struct PendingRequest {
     first: u64,
     /// How often it was requested.
     tries: u32,
+    /// The longest time between two of its requests, or from the last one on; 0 if it was not requested.
+    gap: u64,
 }
 
 /// The missing numbers of one stream, and when each is requested.
@@ -63,10 +84,12 @@ pub struct NackSchedule {
     pending: Vec<PendingRequest>,
     /// Memory for the next table.
     spare: Vec<PendingRequest>,
-    /// Eight times the round-trip time, once a request was answered.
-    round_trip: Option<u64>,
+    /// The round-trip time, by the answers and by reports.
+    trip: RoundTrip,
     /// The earliest moment at which a number is due.
     earliest: Option<u64>,
+    /// The longest time between two requests of a number.
+    slowest: u64,
 }
 
 impl NackSchedule {
@@ -76,8 +99,9 @@ impl NackSchedule {
             settings,
             pending: Vec::new(),
             spare: Vec::new(),
-            round_trip: None,
+            trip: RoundTrip::new(),
             earliest: None,
+            slowest: 0,
         }
     }
 
@@ -103,6 +127,7 @@ impl NackSchedule {
         )?;
         swap(&mut self.pending, &mut self.spare);
         self.earliest = earliest_of(&self.pending);
+        self.slowest = slowest_of(&self.pending);
         Ok(())
     }
 
@@ -137,9 +162,10 @@ impl NackSchedule {
             return;
         }
         let settings = self.settings;
-        let retry = retry_time(&settings, self.round_trip);
+        let retry = retry_time(&settings, &self.trip);
         try_due(settings.tries, retry, now.0, &mut self.pending);
         self.earliest = earliest_of(&self.pending);
+        self.slowest = slowest_of(&self.pending);
     }
 
     /// Returns whether no number is missing, by the latest `refresh`.
@@ -157,12 +183,17 @@ impl NackSchedule {
     }
 
     /// Records that a retransmission of this sequence number (16 bits) arrived. Call it before the `refresh` after that datagram. The
-    /// time since the first request measures the round trip: a shorter time counts at once, a longer one by an eighth, and only
-    /// if the number was requested once. A number that was not requested changes nothing.
+    /// time since the first request of the number is a sample of the round trip. A number that was not requested changes nothing.
     pub fn answered(&mut self, now: Ticks, number: u16) {
         if let Some(request) = requested(&self.pending, number) {
-            self.round_trip = Some(trip_after(self.round_trip, now.0, request));
+            self.trip.note(now.0.saturating_sub(request.first));
         }
+    }
+
+    /// Sets the round trip that reports measured, in ticks: extended reports (RFC 3611), for example. It then counts in place of the
+    /// answers. `None`: the answers count.
+    pub fn set_reported(&mut self, round_trip: Option<u64>) {
+        self.trip.set_reported(round_trip);
     }
 
     /// Returns whether a missing number with these 16 bits was requested.
@@ -170,30 +201,43 @@ impl NackSchedule {
         requested(&self.pending, number).is_some()
     }
 
-    /// Returns the measured round-trip time in ticks, once a request was answered.
+    /// Returns the round-trip time in ticks: what reports say, or else the median of the latest five answers. `None`: no request was
+    /// answered.
     pub fn round_trip(&self) -> Option<u64> {
-        match self.round_trip {
-            Some(eighths) => Some(eighths / 8),
+        self.trip.value()
+    }
+
+    /// Returns how long a packet that is missing is worth waiting for, in ticks: [`NackSettings::answer_time`] of the time between two
+    /// requests, now or of a number that is missing. `None`: the round trip is not sure, since reports do not say it, and fewer than two
+    /// requests were answered. The first answer alone may be a packet that came by itself.
+    pub fn answer_time(&self) -> Option<u64> {
+        match self.trip.sure_value() {
+            Some(round_trip) => {
+                let retry = self.settings.retry_for(round_trip).max(self.slowest);
+                Some(self.settings.answer_time(retry))
+            }
             None => None,
         }
     }
 
-    /// Returns the number of ticks between two requests of a number: `retry`, or once the round-trip time is known 9/8 of it and 5
-    /// more, within `shortest_retry` and `longest_retry`.
+    /// Returns the number of ticks between two requests of a number: `retry`, or once the round-trip time is known that of
+    /// [`NackSettings::retry_for`]; by one answer alone at least `retry`.
     pub fn retry_time(&self) -> u64 {
-        retry_time(&self.settings, self.round_trip)
+        retry_time(&self.settings, &self.trip)
     }
 }
 
 /// Ticks between two requests of a number.
-fn retry_time(settings: &NackSettings, round_trip: Option<u64>) -> u64 {
-    match round_trip {
+fn retry_time(settings: &NackSettings, trip: &RoundTrip) -> u64 {
+    match trip.value() {
         None => settings.retry,
-        Some(eighths) => {
-            let retry = eighths / 8 + eighths / 64 + 5;
-            retry
-                .max(settings.shortest_retry)
-                .min(settings.longest_retry)
+        Some(round_trip) => {
+            let retry = settings.retry_for(round_trip);
+            if trip.is_sure() {
+                retry
+            } else {
+                retry.max(settings.retry)
+            }
         }
     }
 }
@@ -210,6 +254,7 @@ fn new_request(settings: &NackSettings, now: u64, number: u64) -> PendingRequest
         due,
         first: 0,
         tries: 0,
+        gap: 0,
     }
 }
 
@@ -337,6 +382,7 @@ fn tried_if_due(tries: u32, retry: u64, now: u64, request: PendingRequest) -> Pe
             request.first
         },
         tries: sent,
+        gap: request.gap.max(retry),
     }
 }
 
@@ -348,7 +394,7 @@ fn try_due(tries: u32, retry: u64, now: u64, pending: &mut [PendingRequest]) {
 }
 
 /// The earlier of two moments.
-fn earlier(one: Option<u64>, other: Option<u64>) -> Option<u64> {
+pub(crate) fn earlier(one: Option<u64>, other: Option<u64>) -> Option<u64> {
     match (one, other) {
         (Some(one), Some(other)) => Some(one.min(other)),
         (Some(one), None) => Some(one),
@@ -365,6 +411,15 @@ fn earliest_of(pending: &[PendingRequest]) -> Option<u64> {
     earliest
 }
 
+/// The longest time between two requests of a number.
+fn slowest_of(pending: &[PendingRequest]) -> u64 {
+    let mut slowest = 0;
+    for request in pending {
+        slowest = slowest.max(request.gap);
+    }
+    slowest
+}
+
 /// The lowest number with these 16 bits that was requested.
 fn requested(pending: &[PendingRequest], number: u16) -> Option<PendingRequest> {
     for request in pending {
@@ -373,14 +428,4 @@ fn requested(pending: &[PendingRequest], number: u16) -> Option<PendingRequest> 
         }
     }
     None
-}
-
-/// Eight times the round-trip time after an answer.
-fn trip_after(before: Option<u64>, now: u64, request: PendingRequest) -> u64 {
-    let measured = now.saturating_sub(request.first).saturating_mul(8);
-    match before {
-        None => measured,
-        Some(known) if request.tries == 1 && known < measured => known + (measured - known) / 8,
-        Some(known) => known.min(measured),
-    }
 }

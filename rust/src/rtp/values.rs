@@ -78,7 +78,7 @@ pub fn abs_capture_time_of(bytes: &[u8]) -> Option<AbsCaptureTime> {
         let (_, offset) = bytes.split_at(8);
         return Some(AbsCaptureTime {
             capture_time: number_of(bytes),
-            clock_offset: Some(number_of(offset).cast_signed()),
+            clock_offset: Some(number_of(offset) as i64),
         });
     }
     None

@@ -32,7 +32,7 @@ fn capture_time_bytes(time: AbsCaptureTime) -> CaptureBytes {
     let Some(offset) = time.clock_offset else {
         return CaptureBytes { bytes, len: 8 };
     };
-    bytes[8..].copy_from_slice(&offset.cast_unsigned().to_be_bytes());
+    bytes[8..].copy_from_slice(&(offset as u64).to_be_bytes());
     CaptureBytes { bytes, len: 16 }
 }
 

@@ -140,11 +140,12 @@ pub(super) fn inherit<'a>(
     media.is_encrypted |= session.is_encrypted;
     media.transport.inherit_fingerprints(&session.transport)?;
     for place in 0..URIS.len() {
-        if let (None, Some(id)) = (*id_of(media, place), *id_of(session, place))
-            && !has_id(media, id)
-        {
-            *id_of(media, place) = Some(id);
-        }
+        let of_session = *id_of(session, place);
+        let Some(id) = of_session.filter(|id| !has_id(media, *id)) else {
+            continue;
+        };
+        let of_media = id_of(media, place);
+        *of_media = of_media.or(Some(id));
     }
     Ok(())
 }

@@ -84,19 +84,24 @@ pub struct FeedbackSettings {
     /// Whether each packet of requests is a compound packet, which begins with an empty receiver report and the name, as RFC
     /// 3550, section 6.1, asks. Else it has reduced size (RFC 5506): the other side has to accept that (`a=rtcp-rsize`).
     pub has_report: bool,
-    /// When missing packets are requested. Two requests of a number are at least one tick apart, whatever it says.
+    /// When missing packets are requested. Two requests of a number are at least one tick apart, whatever it says, and at most a quarter
+    /// of the time for which a frame of the stream waits at most (`longest_wait` where waiting follows the round trip, else the
+    /// session's limits), unless `shortest_retry` is longer.
     pub nack: NackSettings,
-    /// The least number of ticks between two requests of a stream for a keyframe. 0 counts as 1.
+    /// The least number of ticks between two requests of a stream for a keyframe. 0 counts as 1. Once the round trip is known, they are
+    /// also one and a half round trips apart, so that a keyframe that is on its way is not requested again.
     pub keyframe_interval: u64,
     /// A stream requests nothing once its latest datagram arrived more than this number of ticks ago: its sender is silent, or
     /// continues in another stream, and cannot answer.
     pub silence: u64,
-    /// How long a frame may wait at most if waiting follows the round trip. From the first answer to a request on, `max_wait` of
-    /// the stream's wait limits is `first_wait` of `nack` and four round trips: at least as long as the session's limits for audio
-    /// or video say, and at most this number of ticks, unless these limits are above it. Before that answer video with `nack`
-    /// waits this number of ticks, so that a first keyframe is not dropped while its packets are on their way; all other streams
-    /// wait as the session's limits say. `None`, or no `max_wait` in the session's limits: the wait limits stay. It applies to formats
-    /// whose [`Format::wait`] is [`Waiting::RoundTrip`], as it is by default.
+    /// How long a frame may wait at most if waiting follows the round trip. A frame then waits as long as a request of one of its packets
+    /// can still be answered: `first_wait` of `nack`, and `tries` times the time between two requests of a number
+    /// ([`NackSettings::retry_for`]). That is at least as long as the session's limits for audio or video say, and at most this number
+    /// of ticks, unless these limits are above it. Until two requests were answered, or an extended report measured the round trip,
+    /// video with `nack` waits this number of ticks, so that a first keyframe is not dropped while its packets are on their way; all
+    /// other streams wait as the session's limits say. `None`, or no `max_wait` in the session's limits: the wait limits stay. It
+    /// applies to formats whose [`Format::wait`] is [`Waiting::RoundTrip`], as it is by default. For a stricter delay, set this number
+    /// to it: two requests of a number are at most a quarter of it apart, so that four leave in time.
     pub longest_wait: Option<u64>,
     /// The number of ticks between two receiver reports of the session ([`Event::Report`]); the first one is due this long after
     /// the first stream is announced. 0 counts as 1. `None`: it sends none. RFC 3550, section 6.2, asks for 5 s at least; the
@@ -199,8 +204,8 @@ pub(crate) enum Role {
 
 impl FeedbackSettings {
     /// Returns settings for live streams and a clock in milliseconds, with this SSRC and this canonical name of 1 to 255 bytes:
-    /// requests in packets of reduced size, the defaults of [`NackSettings`], and at most one request for a keyframe in 500 ms.
-    /// Waiting follows the round trip, up to 800 ms. Nothing is requested 2 s after the latest datagram. A receiver report of at
+    /// requests in packets of reduced size, the defaults of [`NackSettings`], and at most one request for a keyframe in 100 ms.
+    /// Waiting follows the round trip, up to 1,500 ms. Nothing is requested 2 s after the latest datagram. A receiver report of at
     /// most 1,200 bytes is sent each second. Does not allocate.
     pub fn live(ssrc: u32, cname: Vec<u8>) -> FeedbackSettings {
         FeedbackSettings {
@@ -208,9 +213,9 @@ impl FeedbackSettings {
             cname,
             has_report: false,
             nack: NackSettings::live(),
-            keyframe_interval: 500,
+            keyframe_interval: 100,
             silence: 2_000,
-            longest_wait: Some(800),
+            longest_wait: Some(1_500),
             report_interval: Some(1_000),
             max_report: 1_200,
         }

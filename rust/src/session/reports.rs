@@ -132,7 +132,7 @@ pub(crate) fn block_about(
         ssrc,
         fraction_lost: report.fraction_lost,
         // 24 bits in two's complement.
-        cumulative_lost: report.cumulative_lost.cast_unsigned() % 16_777_216,
+        cumulative_lost: (report.cumulative_lost as u32) % 16_777_216,
         highest_sequence_number: report.highest,
         jitter: report.jitter,
         last_sender_report: last_report(clock),

@@ -45,8 +45,6 @@ pub(crate) struct Feedback {
 /// The limits between which waiting follows the round trip, in ticks.
 #[derive(Clone, Copy, Debug)]
 pub(crate) struct WaitRange {
-    /// How long a missing packet waits for its first request.
-    first: u64,
     least: u64,
     most: u64,
     /// Whether frames wait for `most` until the round trip is known.
@@ -66,7 +64,7 @@ impl Feedback {
                 let source = source_for(settings)?;
                 let requests = StreamRequests::new(
                     ssrc,
-                    spaced(settings.nack),
+                    nack_for(settings, format, max_wait),
                     settings.keyframe_interval.max(1),
                 );
                 let most = if format.nack {
@@ -100,7 +98,7 @@ impl Feedback {
     /// Returns how long a frame may wait, by the round trip. `None`: the wait limits stay.
     fn wait(&self) -> Option<u64> {
         match self.waits {
-            Some(range) => wait_for(range, self.requests.round_trip()),
+            Some(range) => wait_for(range, self.requests.answer_time()),
             None => None,
         }
     }
@@ -271,7 +269,14 @@ pub(crate) fn request_counts(feedback: &Option<Feedback>) -> RequestCounts {
     }
 }
 
-/// Returns the measured round-trip time, once a request was answered.
+/// Sets the round trip that extended reports measured, in ticks. `None`: the answers to requests count.
+pub(crate) fn set_reported(feedback: &mut Option<Feedback>, round_trip: Option<u64>) {
+    if let Some(feedback) = feedback {
+        feedback.requests.set_reported(round_trip);
+    }
+}
+
+/// Returns the round-trip time: what extended reports say, or else the median of the latest five answers to requests.
 pub(crate) fn round_trip(feedback: &Option<Feedback>) -> Option<u64> {
     match feedback {
         Some(feedback) => feedback.requests.round_trip(),
@@ -288,15 +293,10 @@ pub(crate) fn wait_by(feedback: &Option<Feedback>) -> Option<u64> {
     }
 }
 
-/// Returns whether a stream of the format waits for the first answer: it is video, and requests missing packets. A keyframe that is
+/// Returns whether a stream of the format waits for the first answers: it is video, and requests missing packets. A keyframe that is
 /// dropped before that costs all frames up to the next one.
 fn is_patient(format: &Format) -> bool {
     format.nack && is_video(format.spec.codec)
-}
-
-/// Returns whether waiting in streams of the format follows the round trip.
-fn follows_round_trip(format: &Format) -> bool {
-    matches!(format.wait, Waiting::RoundTrip)
 }
 
 /// Returns how waiting follows the round trip, if it does.
@@ -305,9 +305,8 @@ fn wait_range(
     format: &Format,
     max_wait: Option<u64>,
 ) -> Option<WaitRange> {
-    match (settings.longest_wait, max_wait) {
-        (Some(most), Some(least)) if follows_round_trip(format) => Some(WaitRange {
-            first: settings.nack.first_wait,
+    match (format.wait, settings.longest_wait, max_wait) {
+        (Waiting::RoundTrip, Some(most), Some(least)) => Some(WaitRange {
             least,
             most,
             is_patient: is_patient(format),
@@ -316,19 +315,47 @@ fn wait_range(
     }
 }
 
-/// Returns how long a frame may wait, by the round trip if it is known. `None`: the wait limits stay.
-fn wait_for(range: WaitRange, round_trip: Option<u64>) -> Option<u64> {
-    match round_trip {
-        Some(round_trip) => Some(wait_within(range, round_trip)),
+/// Returns how long a frame may wait: until its last request is answered, if the round trip is sure, within the range. `None`: the wait
+/// limits stay.
+fn wait_for(range: WaitRange, answer_time: Option<u64>) -> Option<u64> {
+    match answer_time {
+        Some(answer_time) => Some(answer_time.min(range.most).max(range.least)),
         None if range.is_patient => Some(range.most.max(range.least)),
         None => None,
     }
 }
 
-/// Returns four round trips and the first wait, within the range.
-fn wait_within(range: WaitRange, round_trip: u64) -> u64 {
-    let wait = round_trip.saturating_mul(4).saturating_add(range.first);
-    wait.min(range.most).max(range.least)
+/// Returns when a stream of the format requests a missing packet: as the settings say, and so that four requests leave while a frame
+/// waits.
+fn nack_for(settings: &FeedbackSettings, format: &Format, max_wait: Option<u64>) -> NackSettings {
+    spaced(fitted(
+        settings.nack,
+        longest_for(settings, format, max_wait),
+    ))
+}
+
+/// Returns how long a frame of the format waits at most. `None`: there is no limit, or waiting follows how late packets arrive.
+fn longest_for(settings: &FeedbackSettings, format: &Format, max_wait: Option<u64>) -> Option<u64> {
+    match (format.wait, settings.longest_wait, max_wait) {
+        (Waiting::Late, _, _) => None,
+        (Waiting::RoundTrip, Some(most), Some(least)) => Some(most.max(least)),
+        _ => max_wait,
+    }
+}
+
+/// Returns the settings with at most a quarter of the wait between two requests of a number, but not less than `shortest_retry`.
+fn fitted(nack: NackSettings, wait: Option<u64>) -> NackSettings {
+    match wait {
+        Some(wait) => {
+            let longest = nack.shortest_retry.max(wait / 4);
+            NackSettings {
+                retry: nack.retry.min(longest),
+                longest_retry: nack.longest_retry.min(longest),
+                ..nack
+            }
+        }
+        None => nack,
+    }
 }
 
 /// Returns the settings with at least one tick between two requests of a number, so that a loop of polls at one moment ends.

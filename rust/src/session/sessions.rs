@@ -347,6 +347,13 @@ impl Session {
             .set_wait_limits(ssrc, payload_type, wait_limits);
     }
 
+    /// Sets the round trip of the stream with this SSRC and payload type, in ticks, as reports measured it: extended reports (RFC 3611),
+    /// or the checks of ICE (RFC 8445). From now on the times of its requests and its waits follow it, in place of the answers to
+    /// requests: call it when the stream begins, and with each report. `None`: the answers count. Without such a stream nothing changes.
+    pub fn set_round_trip(&mut self, ssrc: u32, payload_type: u8, round_trip: Option<u64>) {
+        self.streams.set_round_trip(ssrc, payload_type, round_trip);
+    }
+
     /// Returns the block of a receiver report about the sender of the stream with this SSRC and payload type (RFC 3550, section
     /// 6.4.1). `None`: there is no such stream, or no packet of it counts so far ([`Receiver::report`]). A stream in probation
     /// has a block too. Put at most 31 blocks into one `ReceiverReport` (module `parts::rtcp`), and send it.

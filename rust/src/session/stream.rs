@@ -17,7 +17,7 @@ use crate::session::names::{StreamNameIds, StreamNames};
 use crate::session::reports::SenderClock;
 use crate::session::requests::{
     Feedback, KeyframeAnswer, answer_if, are_idle, ask_keyframe, hear, request_counts,
-    requests_due, rest_time, round_trip, wait_by,
+    requests_due, rest_time, round_trip, set_reported, wait_by,
 };
 use crate::session::times::{LAST_KEY, earlier, key_of, or_max, or_none, time_of};
 use crate::stream::parsed::ParsedDatagram;
@@ -73,7 +73,8 @@ pub struct StreamInfo {
     pub held: usize,
     /// The outcomes of its datagrams.
     pub counters: Counters,
-    /// The measured round-trip time in ticks, once a request of the session was answered.
+    /// The round-trip time in ticks: what extended reports say (RFC 3611), or else the median of the latest five answers to requests of
+    /// the session. `None`: neither came.
     pub round_trip: Option<u64>,
     /// How many missing packets and keyframes the session requested.
     pub requests: RequestCounts,
@@ -245,7 +246,7 @@ impl StreamState {
         }
     }
 
-    /// Waits for as long as the round trip asks for, if waiting follows it and it is known.
+    /// Waits for as long as the round trip asks for, if waiting follows it and it is sure.
     #[inline(always)]
     fn follow_round_trip(&mut self) {
         let wait = wait_by(&self.feedback);
@@ -327,6 +328,21 @@ impl StreamState {
         if self.is_of(ssrc, payload_type) {
             self.quiet_until = 0;
             self.receiver.set_wait_limits(wait_limits);
+        }
+    }
+
+    /// Sets the round trip that reports measured, in ticks, and waits by it, if the stream has this SSRC and payload type. `None`: the
+    /// answers to requests count.
+    pub(crate) fn set_round_trip_if(
+        &mut self,
+        ssrc: u32,
+        payload_type: u8,
+        round_trip: Option<u64>,
+    ) {
+        if self.is_of(ssrc, payload_type) {
+            self.quiet_until = 0;
+            set_reported(&mut self.feedback, round_trip);
+            self.follow_round_trip();
         }
     }
 

@@ -446,6 +446,12 @@ impl Streams {
         set_wait_limits(&mut self.list, ssrc, payload_type, wait_limits);
     }
 
+    /// Sets the round trip that reports measured, for the stream with this SSRC and payload type.
+    pub(crate) fn set_round_trip(&mut self, ssrc: u32, payload_type: u8, round_trip: Option<u64>) {
+        self.waking.forget();
+        set_round_trip(&mut self.list, ssrc, payload_type, round_trip);
+    }
+
     /// Returns the report block about the sender of the stream with this SSRC and payload type.
     pub(crate) fn report(
         &mut self,
@@ -540,6 +546,18 @@ fn set_wait_limits(
 ) {
     for place in 0..streams.len() {
         streams[place].wait_if(ssrc, payload_type, wait_limits);
+    }
+}
+
+/// Sets the round trip of the stream with this SSRC and payload type.
+fn set_round_trip(
+    streams: &mut [StreamState],
+    ssrc: u32,
+    payload_type: u8,
+    round_trip: Option<u64>,
+) {
+    for place in 0..streams.len() {
+        streams[place].set_round_trip_if(ssrc, payload_type, round_trip);
     }
 }
 

@@ -225,10 +225,10 @@ pub(crate) fn settle_note(
     outcome: Outcome,
     highest: Option<u64>,
 ) {
-    if let Some(notes) = notes
-        && let Some(pending) = pending
-    {
-        notes.settle(pending, outcome, highest);
+    if let Some(notes) = notes {
+        if let Some(pending) = pending {
+            notes.settle(pending, outcome, highest);
+        }
     }
 }
 

@@ -58,10 +58,10 @@ impl SeenTimes {
     /// Returns whether a packet with this time arrived, or a block with this time was stored.
     pub(crate) fn is_seen(&self, time: u32) -> bool {
         for place in 0..self.len() {
-            if let Some(seen) = self.at(place)
-                && seen.time == time
-            {
-                return true;
+            if let Some(seen) = self.at(place) {
+                if seen.time == time {
+                    return true;
+                }
             }
         }
         false
@@ -70,11 +70,10 @@ impl SeenTimes {
     /// Returns whether a block with this time was stored.
     pub(crate) fn has_block(&self, time: u32) -> bool {
         for place in 0..self.len() {
-            if let Some(seen) = self.at(place)
-                && seen.is_block
-                && seen.time == time
-            {
-                return true;
+            if let Some(seen) = self.at(place) {
+                if seen.is_block && seen.time == time {
+                    return true;
+                }
             }
         }
         false

@@ -36,10 +36,10 @@ fn sum_of(counters: &Counters, held: usize) -> u64 {
 /// Bytes that usually look like a packet, and sometimes are cut off or of another form.
 fn feed(receiver: &mut Receiver<NoBox>, seed: u32) {
     let mut bytes = packet(96, (seed >> 16) as u16, 7, 1);
-    if seed.is_multiple_of(97) {
+    if seed % 97 == 0 {
         bytes[1] = 101;
     }
-    let len = if seed.is_multiple_of(89) { 5 } else { 13 };
+    let len = if seed % 89 == 0 { 5 } else { 13 };
     take(receiver, u64::from(seed >> 8), &bytes[..len]);
 }
 
@@ -51,7 +51,7 @@ fn numbers_in_any_order() -> Result<(), Fail> {
     for _ in 0..65_536u32 {
         seed = following(seed);
         feed(&mut receiver, seed);
-        if seed.is_multiple_of(7) {
+        if seed % 7 == 0 {
             let _unit = receiver.pop(Ticks(u64::from(seed)));
         }
         most = receiver.held().max(most);

@@ -11,8 +11,9 @@ use codec_payload::rtcp::*;
 use codec_payload::rtp::*;
 use codec_payload::transport::{SentPackets, write_numbered};
 use codec_payload::wire::*;
+use codec_payload::xr::{Dlrr, write_dlrr, write_reference_time};
 
-pub const CALLS: [Call; 13] = [
+pub const CALLS: [Call; 14] = [
     Call(
         &[
             "ReportBlock::write",
@@ -76,6 +77,7 @@ pub const CALLS: [Call; 13] = [
         ],
         congestion,
     ),
+    Call(&["write_reference_time", "write_dlrr"], round_trips),
     Call(
         &["write_elements", "PacketHeader::write", "RtpPacket::write"],
         rtp_packets,
@@ -333,6 +335,20 @@ fn transport(size: usize) {
             made(sent.assign(Ticks(now)));
         }
         assert_eq!(made(sent.results(&feedback)).len(), size);
+    }
+}
+
+fn round_trips(size: usize) {
+    let mut out = vec![0; size];
+    let answer = Dlrr {
+        ssrc: 1,
+        last_rr: 2,
+        delay: 3,
+    };
+    // A compound packet grows by each report.
+    for _ in 0..20 {
+        made(write_reference_time(1, 2, &mut out));
+        made(write_dlrr(1, answer, &mut out));
     }
 }
 

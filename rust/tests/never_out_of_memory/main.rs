@@ -8,6 +8,7 @@ mod control;
 mod formats;
 mod sources;
 mod streams;
+mod together;
 
 use std::alloc::{GlobalAlloc, Layout, System};
 use std::collections::BTreeSet;

@@ -62,14 +62,14 @@ pub const CALLS: [Call; 13] = [
     Call(&["Media::receiver_settings"], receiver_settings),
 ];
 
-const VP8: u8 = 96;
-const RTX: u8 = 97;
+pub const VP8: u8 = 96;
+pub const RTX: u8 = 97;
 const OPUS: u8 = 111;
 const RED: u8 = 63;
-const EVENTS: u8 = 126;
+pub const EVENTS: u8 = 126;
 
 /// An RTP packet with the marker (RFC 3550, section 5.1).
-fn packet(payload_type: u8, ssrc: u32, number: u16, time: u32, payload: &[u8]) -> Vec<u8> {
+pub fn packet(payload_type: u8, ssrc: u32, number: u16, time: u32, payload: &[u8]) -> Vec<u8> {
     let mut bytes = vec![0x80, payload_type | 0x80];
     bytes.extend(number.to_be_bytes());
     bytes.extend(time.to_be_bytes());
@@ -79,7 +79,7 @@ fn packet(payload_type: u8, ssrc: u32, number: u16, time: u32, payload: &[u8]) -
 }
 
 /// The payload of a keyframe of VP8 in one packet, with as many bytes behind its header (RFC 7741, section 4.2).
-fn keyframe(size: usize) -> Vec<u8> {
+pub fn keyframe(size: usize) -> Vec<u8> {
     let head = [0x10, 0x10, 0, 0, 0x9d, 0x01, 0x2a, 0x10, 0, 0x10, 0];
     [&head[..], &vec![7; size]].concat()
 }
@@ -337,7 +337,7 @@ fn format(payload_type: u8, codec: Codec, rate: Frequency) -> Format {
 }
 
 /// A session that requests all, reports each tick, and has room for as much as its settings can say.
-fn session(size: usize) -> Session {
+pub fn session(size: usize) -> Session {
     let mut settings = SessionSettings::live();
     settings.formats = vec![
         Format {
@@ -378,7 +378,7 @@ fn session(size: usize) -> Session {
 }
 
 /// The answers of an event.
-fn checked<U>(event: &Event<U>) {
+pub fn checked<U>(event: &Event<U>) {
     match event {
         Event::Unit { unit, .. } => drop(told(unit.as_ref().map_err(|it| *it))),
         Event::Feedback { packet, .. }
@@ -391,7 +391,7 @@ fn checked<U>(event: &Event<U>) {
 }
 
 /// A packet with a transport-wide number under id 5, and a keyframe (RFC 8285, section 4.2).
-fn numbered(ssrc: u32, number: u16) -> Vec<u8> {
+pub fn numbered(ssrc: u32, number: u16) -> Vec<u8> {
     let [high, low] = number.to_be_bytes();
     let plain = packet(VP8, ssrc, number, 3_000 * u32::from(number), &[]);
     [

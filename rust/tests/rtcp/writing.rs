@@ -222,7 +222,7 @@ fn what_does_not_fit() {
     for padding in 0..=255u8 {
         assert_eq!(
             padding_fits(&packet, padding),
-            padding > 0 && padding.is_multiple_of(4)
+            padding > 0 && padding % 4 == 0
         );
     }
     assert!(!padding_fits(&[0xa0, 203, 0, 0], 4));

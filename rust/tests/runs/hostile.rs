@@ -201,7 +201,7 @@ fn count_of_reports(payload: &[u8]) -> Option<usize> {
 fn reports_agree(payload: &[u8]) {
     let begins = TelephoneEvent::parse(payload, Frequency::EIGHT_KHZ).is_some();
     assert_same("a report", &begins, &(payload.len() >= 4));
-    let is_whole = !payload.is_empty() && payload.len().is_multiple_of(4);
+    let is_whole = !payload.is_empty() && payload.len() % 4 == 0;
     let wanted = if is_whole {
         Some(payload.len() / 4)
     } else {

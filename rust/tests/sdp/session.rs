@@ -337,9 +337,10 @@ fn changed_descriptions() {
     ] {
         for seed in 0..300 {
             let text = changed(given, seed);
-            if let Ok(media) = sdp::read(&text)
-                && let Ok(settings) = sdp::session_settings(&media)
-            {
+            let Ok(media) = sdp::read(&text) else {
+                continue;
+            };
+            if let Ok(settings) = sdp::session_settings(&media) {
                 assert!(!settings.formats.is_empty());
                 assert_eq!(settings.check(), Ok(()), "{text}");
                 made += 1;

@@ -16,6 +16,7 @@ fn session(change: impl Fn(&mut SessionSettings)) -> Session {
     }
     let mut feedback = FeedbackSettings::live(1, b"me@host".to_vec());
     (feedback.longest_wait, feedback.report_interval) = (None, None);
+    feedback.keyframe_interval = 500;
     settings.feedback = Some(feedback);
     change(&mut settings);
     Session::new(settings).expect("settings that can be met")

@@ -103,6 +103,7 @@ fn session(rules: Rules) -> Session {
     settings.feedback = Some(FeedbackSettings {
         longest_wait: None,
         report_interval: None,
+        keyframe_interval: 500,
         ..FeedbackSettings::live(OWN, b"me@host".to_vec())
     });
     settings.max_streams = rules.max_streams;
@@ -117,6 +118,15 @@ fn retransmission(ssrc: u32) -> Retransmission {
     Retransmission {
         ssrc,
         payload_type: RTX,
+    }
+}
+
+/// When a stream of VP8 requests a packet: its frames wait for 200 ms, so two requests of a number are at most 50 ms apart.
+fn request_times() -> NackSettings {
+    NackSettings {
+        retry: 50,
+        longest_retry: 50,
+        ..NackSettings::live()
     }
 }
 
@@ -250,7 +260,7 @@ impl Model {
             payload_type,
             receiver: receiver(ssrc, payload_type, self.again(ssrc)),
             requests: (self.rules.requests && payload_type == VP8)
-                .then(|| StreamRequests::new(ssrc, NackSettings::live(), 500)),
+                .then(|| StreamRequests::new(ssrc, request_times(), 500)),
             taken: 0,
             bytes: 0,
             accepted: 0,

@@ -20,7 +20,10 @@ fn session(change: impl Fn(&mut SessionSettings)) -> Session {
     for limits in [&mut settings.audio, &mut settings.video] {
         (limits.start, limits.max_wait) = (0, Some(1_000));
     }
-    settings.feedback = Some(FeedbackSettings::live(OWN, b"me@host".to_vec()));
+    settings.feedback = Some(FeedbackSettings {
+        keyframe_interval: 500,
+        ..FeedbackSettings::live(OWN, b"me@host".to_vec())
+    });
     change(&mut settings);
     Session::new(settings).expect("settings that can be met")
 }
@@ -236,23 +239,34 @@ fn without_settings_nothing_is_requested() -> Result<(), Fail> {
     Ok(())
 }
 
-/// A request is answered after 40 ms, by a retransmission under its own SSRC or by the packet itself. So the next number is requested
-/// each 9/8 of that, and 5 ms more.
+/// Two requests are answered after 40 ms, by retransmissions under their own SSRC or by the packets themselves. So the next number is
+/// requested each 9/8 of that, and 5 ms more.
 #[test]
-fn an_answer_measures_the_round_trip() -> Result<(), Fail> {
-    let retransmitted = packet(RTX, 50, 900, 9_000, &[&[0, 3], vp8_frame(false)].concat());
-    for (retransmission, answer) in [(Some(RTX), retransmitted), (None, vp8(5, 3, false))] {
+fn two_answers_measure_the_round_trip() -> Result<(), Fail> {
+    let again = |number: u8, lost: u8| {
+        let payload = [&[0, lost][..], vp8_frame(false)].concat();
+        packet(RTX, 50, number.into(), 9_000, &payload)
+    };
+    let retransmitted = [again(1, 3), again(2, 5)];
+    let cases = [
+        (Some(RTX), retransmitted),
+        (None, [vp8(5, 3, false), vp8(5, 5, false)]),
+    ];
+    for (retransmission, answers) in cases {
         let mut session = session(|s| {
             s.formats[0].retransmission = retransmission;
             s.video.max_wait = Some(10_000);
         });
-        for number in [1, 2, 4] {
+        for number in [1, 2, 4, 6] {
             session.receive(Ticks(0), &vp8(5, number, number == 1))?;
         }
         assert_eq!(requested(&mut session, 0), []);
-        assert_eq!(requested(&mut session, 10), [(5, vec![3], 0)]);
-        session.receive(Ticks(50), &answer)?;
-        session.receive(Ticks(50), &vp8(5, 6, false))?;
+        assert_eq!(requested(&mut session, 10), [(5, vec![3, 5], 0)]);
+        for answer in answers {
+            session.receive(Ticks(50), &answer)?;
+        }
+        assert_eq!(session.stream_at(0).unwrap().round_trip, Some(40));
+        session.receive(Ticks(50), &vp8(5, 8, false))?;
         assert_eq!(requested(&mut session, 50), []);
         let times: Vec<u64> = requested_until(&mut session, 200)
             .iter()
@@ -299,14 +313,18 @@ fn a_silent_sender_is_not_asked() -> Result<(), Fail> {
     Ok(())
 }
 
-/// Number 3 is requested at 10 ms and answered at `answered`. So a frame behind the next gap waits for four round trips and 10 ms,
-/// within the session's limit of 200 ms and the longest wait of 500 ms.
+/// Numbers 3 and 5 are requested at 10 ms and answered at `answered`. So a frame behind the next gap waits until six requests of a number
+/// left, 9/8 of the round trip and 5 ms apart, and the last one was answered: within the session's limit of 200 ms and the longest wait.
 #[test]
 fn waiting_follows_the_round_trip() -> Result<(), Fail> {
     let cases = [
-        (Some(500), 20, 200),
-        (Some(500), 80, 290),
-        (Some(500), 190, 500),
+        // 10 + 6 * 20, since two requests are at least 20 ms apart
+        (Some(1_500), 20, 200),
+        // 10 + 6 * (70 + 8 + 5)
+        (Some(1_500), 80, 508),
+        // 10 + 6 * (160 + 20 + 5)
+        (Some(1_500), 170, 1_120),
+        (Some(1_000), 170, 1_000),
         (Some(100), 80, 200),
         (None, 80, 200),
     ];
@@ -316,25 +334,146 @@ fn waiting_follows_the_round_trip() -> Result<(), Fail> {
             s.video.max_wait = Some(200);
             s.feedback.as_mut().unwrap().longest_wait = longest_wait;
         });
-        for number in [1, 2, 4] {
+        for number in [1, 2, 4, 6] {
             session.receive(Ticks(0), &vp8(5, number, number == 1))?;
         }
         assert_eq!(requested(&mut session, 0), []);
-        assert_eq!(requested(&mut session, 10), [(5, vec![3], 0)]);
+        assert_eq!(requested(&mut session, 10), [(5, vec![3, 5], 0)]);
+        let limits = |session: &Session| session.receiver_of(5, VP8).unwrap().wait_limits();
         session.receive(Ticks(answered), &vp8(5, 3, false))?;
+        // One answer alone may be a packet that came by itself.
+        let patient = longest_wait.map_or(200, |longest| longest.max(200));
+        assert_eq!(limits(&session).max_wait, Some(patient));
+        session.receive(Ticks(answered), &vp8(5, 5, false))?;
         assert_eq!(
             session.stream_at(0).unwrap().round_trip,
             Some(answered - 10)
         );
-        let limits = session.receiver_of(5, VP8).unwrap().wait_limits();
-        assert_eq!(limits.max_wait, Some(wait));
-        assert_eq!(limits.start, 0);
+        // The numbers that were requested with 100 ms until their next request are no longer missing.
+        assert_eq!(requested(&mut session, answered), []);
+        session.receive(Ticks(answered), &vp8(5, 7, false))?;
+        assert_eq!(limits(&session).max_wait, Some(wait));
+        assert_eq!(limits(&session).start, 0);
     }
     Ok(())
 }
 
-/// The round trip is 45 ms, and frames wait for 100 ms. At 265 ms number 5 is requested again. The answer is expected at 310 ms,
-/// and the frame behind it would be released at 300 ms. Then number 6 comes, which was only late: from now on the first complete
+/// A report measured 160 ms before the first loss: the second request leaves after 9/8 of that and 5 ms, and a frame waits for six of
+/// them. `None` later: nothing was answered, so the second request leaves after 100 ms.
+#[test]
+fn a_report_sets_the_round_trip() -> Result<(), Fail> {
+    for (reported, second, wait) in [(Some(160), 195, 1_120), (None, 110, 1_500)] {
+        let mut session = session(|s| s.video.max_wait = Some(200));
+        for number in [1, 2] {
+            session.receive(Ticks(0), &vp8(5, number, number == 1))?;
+        }
+        session.set_round_trip(5, VP8, Some(80));
+        session.set_round_trip(5, VP8, reported);
+        session.set_round_trip(5, OPUS, Some(7));
+        session.set_round_trip(6, VP8, Some(7));
+        assert_eq!(session.stream_at(0).unwrap().round_trip, reported);
+        session.receive(Ticks(0), &vp8(5, 4, false))?;
+        let limits = session.receiver_of(5, VP8).unwrap().wait_limits();
+        assert_eq!(limits.max_wait, Some(wait));
+        let times: Vec<u64> = requested_until(&mut session, second + 1)
+            .iter()
+            .map(|request| request.0)
+            .collect();
+        assert_eq!(times, [10, second]);
+    }
+    Ok(())
+}
+
+/// While a frame waits four requests of a number leave: they are at most a quarter of the wait apart, and not less than 20 ms.
+#[test]
+fn tries_fit_the_wait() -> Result<(), Fail> {
+    let cases = [
+        (400, 1, vec![10, 110, 210, 310]),
+        (120, 1, vec![10, 40, 70, 100]),
+        (60, 1, vec![10, 30, 50]),
+        // A clock of microseconds.
+        (400_000, 1_000, vec![10_000, 110_000, 210_000, 310_000]),
+    ];
+    for (wait, tick, expected) in cases {
+        let mut session = session(|s| {
+            s.formats[0].wait = Waiting::Fixed;
+            s.video.max_wait = Some(wait);
+            s.idle_timeout *= tick;
+            let feedback = s.feedback.as_mut().unwrap();
+            let nack = &mut feedback.nack;
+            for time in [
+                &mut nack.first_wait,
+                &mut nack.retry,
+                &mut nack.shortest_retry,
+                &mut nack.longest_retry,
+                &mut feedback.silence,
+                &mut feedback.keyframe_interval,
+            ] {
+                *time *= tick;
+            }
+        });
+        for number in [1, 2, 4] {
+            session.receive(Ticks(0), &vp8(5, number, number == 1))?;
+        }
+        let times: Vec<u64> = requested_until(&mut session, wait)
+            .iter()
+            .map(|request| request.0)
+            .collect();
+        assert_eq!(times, expected);
+    }
+    Ok(())
+}
+
+/// A packet that nobody asked for comes 1 ms after a request, as a probe of Chromium does; all answers take 160 ms. 14 packets are lost,
+/// each 20th, of which each is requested once but for the first, whose second request leaves after 100 ms.
+#[test]
+fn a_probe_does_not_shorten_the_round_trip() -> Result<(), Fail> {
+    let mut session = session(|s| s.video.max_wait = Some(200));
+    let again = |of: u16, number: u16| {
+        let payload = [&of.to_be_bytes()[..], vp8_frame(false)].concat();
+        packet(RTX, 50, number, u32::from(of) * 3_000, &payload)
+    };
+    let (mut answers, mut probe, mut count) = (Vec::new(), None, 0);
+    let (mut rtx, mut asked, mut decodable) = (0, Vec::new(), 0);
+    for now in 0..10_000 {
+        let number = (now / 33) as u16 + 1;
+        if now % 33 == 0 && number < 300 && number % 20 != 0 {
+            session.receive(Ticks(now), &vp8(5, number, number == 1))?;
+        }
+        let due = |answer: &(u64, u16)| answer.0 == now;
+        for (_, of) in answers.iter().copied().filter(due).chain(probe.filter(due)) {
+            rtx += 1;
+            session.receive(Ticks(now), &again(of, rtx))?;
+        }
+        while let Some(event) = session.poll(Ticks(now)) {
+            match event {
+                Event::Unit {
+                    decodable: shown, ..
+                } => decodable += usize::from(shown),
+                Event::Feedback { packet, .. } => {
+                    for number in read(&packet?).1 {
+                        count += 1;
+                        if !asked.contains(&number) {
+                            asked.push(number);
+                            answers.push((now + 160, number));
+                            probe = probe.or(Some((now + 1, number)));
+                        }
+                    }
+                }
+                _ => {}
+            }
+        }
+        if number > 65 {
+            assert_eq!(session.stream_at(0).unwrap().round_trip, Some(160));
+        }
+    }
+    assert!(count <= 20, "{count} requests of 14 numbers");
+    assert_eq!((asked.len(), decodable), (14, 299));
+    Ok(())
+}
+
+/// The round trip is 45 ms, and frames wait for 100 ms. Number 5 is requested each 25 ms, a quarter of that. The answer is expected at
+/// 310 ms, and the frame behind it would be released at 300 ms. Then number 6 comes, which was only late: from now on the first complete
 /// frame waits until 370 ms, so the answer is in time. Without this request a unit would be lost.
 #[test]
 fn an_answer_expected_too_late_can_come_in_time() -> Result<(), Fail> {
@@ -351,12 +490,14 @@ fn an_answer_expected_too_late_can_come_in_time() -> Result<(), Fail> {
     assert_eq!(session.stream_at(0).unwrap().round_trip, Some(45));
     session.receive(Ticks(200), &opus(7, 7))?;
     assert_eq!(requested(&mut session, 200), []);
-    assert_eq!(requested(&mut session, 210), [(7, vec![5, 6], 0)]);
-    assert_eq!(requested(&mut session, 265), [(7, vec![5, 6], 0)]);
+    for now in [210, 235, 260] {
+        assert_eq!(requested(&mut session, now), [(7, vec![5, 6], 0)]);
+    }
     let due = |session: &Session| session.receiver_of(7, OPUS).unwrap().next_deadline();
     assert_eq!(due(&session), Some(Ticks(300)));
     session.receive(Ticks(270), &opus(7, 6))?;
     assert_eq!(due(&session), Some(Ticks(370)));
+    assert_eq!(requested(&mut session, 285), [(7, vec![5], 0)]);
     assert_eq!(requested(&mut session, 300), []);
     session.receive(Ticks(310), &opus(7, 5))?;
     let mut units = 0;

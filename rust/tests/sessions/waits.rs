@@ -119,7 +119,7 @@ fn a_fixed_wait_stays() -> Result<(), Fail> {
     Ok(())
 }
 
-/// Video waits for the first answer, for `longest_wait`: 800 ms by default. Audio without requests waits as the limits say.
+/// Video waits for the first answers, for `longest_wait`: 1,500 ms by default. Audio without requests waits as the limits say.
 #[test]
 fn the_round_trip_is_the_default() -> Result<(), Fail> {
     assert_eq!(vp8_format().wait, Waiting::RoundTrip);
@@ -128,7 +128,7 @@ fn the_round_trip_is_the_default() -> Result<(), Fail> {
     for number in [1, 2, 4] {
         session.receive(Ticks(9_000), &vp8(5, number, number == 1))?;
     }
-    assert_eq!(max_wait(&session, 5, VP8), Some(800));
+    assert_eq!(max_wait(&session, 5, VP8), Some(1_500));
     Ok(())
 }
 

@@ -68,7 +68,7 @@ pub fn link_again(
 
 /// The frame with that index. Each eighth is a keyframe: bit 0 of its first byte is clear (RFC 6386, section 9.1).
 pub fn frame_of(index: usize) -> [u8; 3] {
-    [u8::from(!index.is_multiple_of(8)), 0xa5, index as u8]
+    [u8::from(index % 8 != 0), 0xa5, index as u8]
 }
 
 /// All frames, at 30 frames per second.
@@ -110,7 +110,7 @@ impl Schedule {
     fn forward(&mut self, datagram: usize) {
         let now = datagram as u64 * 1_500;
         self.steps.push(ForwardStep::Forward { datagram, now });
-        if self.begun.is_none() && datagram.is_multiple_of(16) {
+        if self.begun.is_none() && datagram % 16 == 0 {
             self.begun = Some(datagram);
         }
         if self.begun.is_some_and(|first| first <= datagram) {

@@ -70,7 +70,7 @@ fn link_of(again: Option<RetransmissionStream>) -> Result<StoreLink<NoBox, NoBox
 /// The frame with that index. The first and the twentieth after it are keyframes: bit 0 of the first byte is clear (RFC 6386,
 /// section 9.1).
 fn frame_of(index: usize) -> [u8; 3] {
-    [u8::from(!index.is_multiple_of(20)), 0xa5, index as u8]
+    [u8::from(index % 20 != 0), 0xa5, index as u8]
 }
 
 fn samples() -> Vec<ToPayload> {

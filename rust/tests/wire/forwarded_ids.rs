@@ -33,7 +33,7 @@ fn payload_of(id: u16, wide: bool, first: bool, piece: &[u8]) -> Vec<u8> {
 
 /// The payload of a datagram as it is sent, and as the viewer gets it, if the viewer's id 0 is the frame's with this index.
 fn payloads_of(first_id: u16, begun: usize, datagram: usize) -> [Vec<u8>; 2] {
-    let (frame, is_first) = (datagram / 2, datagram.is_multiple_of(2));
+    let (frame, is_first) = (datagram / 2, datagram % 2 == 0);
     let id = (first_id + frame as u16) % 0x8000;
     let begun_id = (first_id + begun as u16) % 0x8000;
     let wide = id >= 0x80;

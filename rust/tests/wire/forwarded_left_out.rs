@@ -17,7 +17,7 @@ const FRAMES: usize = 200;
 
 /// The frames with an odd index are left out.
 pub fn is_left_out(datagram: usize) -> bool {
-    !(datagram / 2).is_multiple_of(2)
+    (datagram / 2) % 2 != 0
 }
 
 /// The steps, and the outcome of each datagram.
@@ -40,7 +40,7 @@ impl Schedule {
     fn forward(&mut self, datagram: usize) {
         let now = datagram as u64 * 1_500;
         self.plain(ForwardStep::Forward { datagram, now });
-        if self.begun.is_none() && datagram.is_multiple_of(16) {
+        if self.begun.is_none() && datagram % 16 == 0 {
             self.begun = Some(datagram);
         }
         if self.begun.is_some() {

@@ -19,6 +19,7 @@ mod sides;
 mod switched;
 mod switched_back;
 mod with_ids;
+mod witnesses;
 
 /// Why a test fails.
 pub type Fail = Box<dyn std::error::Error>;

@@ -69,9 +69,8 @@ impl<'a> Model<'a> {
         self.highest = self.highest.max(datagram);
         self.push(datagram);
         for distance in self.case.distances {
-            if let Some(packet) = datagram.checked_sub(*distance as usize)
-                && self.highest <= packet + BACKWARD
-            {
+            let packet = datagram.checked_sub(*distance as usize);
+            if let Some(packet) = packet.filter(|it| self.highest <= it + BACKWARD) {
                 self.push(packet);
             }
         }
@@ -81,9 +80,8 @@ impl<'a> Model<'a> {
         if self.next.is_some_and(|next| packet < next) || !self.held.insert(packet) {
             return;
         }
-        if self.held.len() > self.case.limit
-            && let Some(lowest) = self.held.pop_first()
-        {
+        if self.held.len() > self.case.limit {
+            let lowest = self.held.pop_first().expect("more than the limit");
             self.next = Some(lowest + 1);
             self.evicted = true;
         }

@@ -116,7 +116,7 @@ impl Plan {
     /// A datagram of the sender comes, as a retransmission one time in four.
     pub fn come(&mut self, now: u64, datagram: usize, place: bool, seed: &mut u32) {
         let at = moment(now);
-        if self.taken.contains(&true) && following(seed).is_multiple_of(4) {
+        if self.taken.contains(&true) && following(seed) % 4 == 0 {
             let again = RetransmissionStream {
                 ssrc: 70,
                 payload_type: 97,
@@ -132,7 +132,7 @@ impl Plan {
             self.steps.push(ServeStep::Arrive { datagram, at });
         }
         self.taken.push(place);
-        if place && self.begun.is_none() && datagram.is_multiple_of(16) {
+        if place && self.begun.is_none() && datagram % 16 == 0 {
             self.begun = Some(datagram);
         }
         if place && self.begun.is_some_and(|first| first <= datagram) {

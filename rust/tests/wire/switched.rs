@@ -50,7 +50,7 @@ pub fn sample_in(source: Source, frame: usize) -> usize {
 /// The bytes of a sample.
 pub fn bytes_of(sample: usize) -> [u8; 5] {
     let [high, low] = (sample as u16).to_be_bytes();
-    [u8::from(!sample.is_multiple_of(8)), 0xa5, high, low, 0x5a]
+    [u8::from(sample % 8 != 0), 0xa5, high, low, 0x5a]
 }
 
 pub fn samples() -> Vec<ToPayload> {
@@ -160,7 +160,7 @@ impl Schedule {
             if first <= datagram {
                 self.written.push((source, datagram));
             }
-        } else if wanted == source && datagram.is_multiple_of(self.begins_each) {
+        } else if wanted == source && datagram % self.begins_each == 0 {
             if source == Source::Second {
                 let highest = self.written.iter().map(|(_, datagram)| datagram + 1).max();
                 self.switch = Some((highest.unwrap_or(0), datagram));

@@ -71,7 +71,7 @@ impl Schedule {
                 present.datagrams.end = max(present.datagrams.end, datagram + 1);
                 self.written.push((last, datagram));
             }
-        } else if self.wanted == source && datagram.is_multiple_of(self.begins_each) {
+        } else if self.wanted == source && datagram % self.begins_each == 0 {
             self.written.push((self.stretches.len(), datagram));
             self.stretches.push(Stretch {
                 source,
@@ -133,7 +133,7 @@ impl Schedule {
     fn cuts(&self) -> usize {
         let ended = self.stretches.iter().rev().skip(1);
         ended
-            .filter(|it| !it.datagrams.end.is_multiple_of(self.per_frame))
+            .filter(|it| it.datagrams.end % self.per_frame != 0)
             .count()
     }
 }

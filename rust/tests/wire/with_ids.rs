@@ -15,7 +15,7 @@ pub const FIRST_IDS: [u16; 4] = [0, 100, 300, 32_700];
 /// The frame with that index. A payload has at most seven bytes, of which three or four are the descriptor: two datagrams.
 pub fn frame_of(index: usize) -> [u8; 5] {
     let [high, low] = (index as u16).to_be_bytes();
-    [u8::from(!index.is_multiple_of(8)), 0xa5, high, low, 0x5a]
+    [u8::from(index % 8 != 0), 0xa5, high, low, 0x5a]
 }
 
 pub fn samples(frames: usize) -> Vec<ToPayload> {

@@ -1,7 +1,26 @@
-//! RTP packets and header extensions.
+//! RTP packets and header extensions; extended reports of RTCP.
 
 use crate::input::Input;
 use codec_payload::rtp::{ExtensionIds, RtpPacket, is_rtcp};
+use codec_payload::xr::{ExtendedReport, XrBlock};
+
+/// The blocks of a report that was read are its bytes.
+fn extended_reports(body: &[u8]) {
+    let walked = ExtendedReport {
+        ssrc: 0,
+        blocks: body,
+    };
+    let _ = (walked.reference_time(), walked.dlrr(0));
+    let Ok(report) = ExtendedReport::read(body) else {
+        return;
+    };
+    let mut rest = report.blocks;
+    while !rest.is_empty() {
+        let (block, others) = XrBlock::read(rest).unwrap();
+        assert_eq!(rest.len(), 4 + block.contents.len() + others.len());
+        rest = others;
+    }
+}
 
 /// Any bytes: a packet that was read is written and read again.
 pub fn packets(input: &mut Input) {
@@ -13,6 +32,7 @@ pub fn packets(input: &mut Input) {
     };
     let bytes = input.0;
     let _ = is_rtcp(bytes);
+    extended_reports(bytes);
     let Ok(packet) = RtpPacket::parse(bytes) else {
         return;
     };

@@ -37,7 +37,7 @@ impl Packet {
     }
 
     fn is_tail(self) -> bool {
-        self.number % 4 == 1 || self.number.is_multiple_of(9)
+        self.number % 4 == 1 || self.number % 9 == 0
     }
 
     /// Whether this packet may stand right before the other in one frame.

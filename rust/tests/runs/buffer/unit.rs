@@ -157,7 +157,7 @@ fn meta_of(number: u64, ext_vals: ExtensionValues) -> RtpMeta {
 
 /// What is known of the packet of that number: of even ones with every value of a header extension, of others with none.
 fn known_of(number: u64) -> RtpMeta {
-    let values = if number.is_multiple_of(2) {
+    let values = if number % 2 == 0 {
         all_values()
     } else {
         ExtensionValues::default()

@@ -1,5 +1,4 @@
-use Rattle.std.proofs.Common.{ℕ, ◌≡◌, ◌∙◌, ◌<◌, ◌+◌, ◌++◌, [], ◌∷◌, List, ap, arith, drop, get_or, length, rules, sym, true, false}
-use Rattle.codec_payload_feedback_requests.specs.declared.nack.PendingRequest.{PendingRequest}
+use Rattle.std.proofs.Common.{ℕ, ◌≡◌, ◌∙◌, ◌+◌, ◌∷◌, List, ap, arith, drop, get_or, rules, sym, true, false}
 use Rattle.codec_payload_feedback_requests.specs.NackSchedule.{is_past}
 use Rattle.codec_payload_feedback_requests.proofs.NackLemmas.{kept_here, left_is, merged, merged_later, merged_more, same_more, skip_rising}
 use Rattle.codec_payload_feedback_requests.proofs.nack.merge.Goals as goal

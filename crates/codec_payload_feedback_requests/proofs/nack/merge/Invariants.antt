@@ -1,4 +1,4 @@
-use Rattle.std.proofs.Common.{◌≡◌, ◌++◌, ◌-◌, ◌≤◌, ℕ, drop, length, take, true}
+use Rattle.std.proofs.Common.{◌≡◌, ◌++◌, ◌-◌, ℕ, drop, length, take, true}
 use Rattle.codec_payload_feedback_requests.specs.NackSchedule.{are_rising, followed, is_past, numbers_of, refreshed_with, request_of, rising_after}
 use Rattle.codec_payload_feedback_requests.proofs.nack.merge.Given as goal
 

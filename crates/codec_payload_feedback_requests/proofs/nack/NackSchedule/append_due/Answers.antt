@@ -8,4 +8,4 @@ pub returns-then-not-has_come-clause-ok : goal.returns-then-not-has_come-clause-
 returns-then-not-has_come-clause-ok c =
     let none : has_come (earliest_of c.self.inside.pending.items) c.args.now.0 ≡ false =
     ap (λ (at : Option ℕ). has_come at c.args.now.0) (sym c.self.invariant.earliest_is) ∙ sym c.has_come.ensures ∙ c.if-not-has_come.true in
-    subst (λ (s : Schedule). c.args.numbers.now.items ≡ c.args.numbers.now.items ++ map low_bits (due_numbers c.args.now.0 s)) c.self.view_is (nothing_appended c.args.now.0 (record { settings = c.self.inside.settings; pending = c.self.inside.pending.items; round_trip = c.self.inside.round_trip }) c.args.numbers.now.items none)
+    subst (λ (s : Schedule). c.args.numbers.now.items ≡ c.args.numbers.now.items ++ map low_bits (due_numbers c.args.now.0 s)) c.self.view_is (nothing_appended c.args.now.0 (record { settings = c.self.inside.settings; pending = c.self.inside.pending.items; trip = c.self.inside.trip }) c.args.numbers.now.items none)

@@ -1,7 +1,7 @@
-use Rattle.std.proofs.Common.{◌≡◌, ◌∙◌, List, Option, ℕ, ap, arith, false, length, rules, subst, sym, true}
+use Rattle.std.proofs.Common.{◌≡◌, ◌∙◌, List, Option, ℕ, ap, false, length, rules, subst, sym, true}
 use Rattle.std.proofs.lemmas.List.{with_items_is}
 use Rattle.codec_payload_feedback_requests.specs.declared.nack.PendingRequest.{PendingRequest}
-use Rattle.codec_payload_feedback_requests.specs.NackSchedule.{Schedule, after_due, are_rising, earliest_of, numbers_of}
+use Rattle.codec_payload_feedback_requests.specs.NackSchedule.{Schedule, after_due, are_rising, earliest_of, numbers_of, slowest_of}
 use Rattle.codec_payload_feedback_requests.specs.Requests.{has_come}
 use Rattle.codec_payload_feedback_requests.proofs.NackLemmas.{nothing_due, tried_rises}
 use Rattle.codec_payload_feedback_requests.proofs.nack.NackSchedule.count_due.Goals as goal
@@ -22,4 +22,5 @@ invariant_of-self c =
           ap (λ (rs : List PendingRequest). are_rising (numbers_of rs)) (with_items_is c.self.inside.pending c.try_due.new.pending size ∙ c.try_due.ensures)
           ∙ tried_rises c.self.inside.settings.tries c.retry_time-retry.result c.args.now.0 c.deref_mut.result.now before;
       earliest_is = c.earliest_of-self-inside.ensures ∙ ap earliest_of c.deref.ensures.value;
+      slowest_is = c.slowest_of-self-inside.ensures ∙ ap slowest_of c.deref-2.ensures.value;
     }

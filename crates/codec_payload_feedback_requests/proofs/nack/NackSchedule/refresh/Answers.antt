@@ -1,5 +1,5 @@
 use Rattle.std.proofs.Common.{◌≡◌, ◌∙◌, ap, subst, sym}
-use Rattle.codec_payload_feedback_requests.specs.NackSchedule.{Schedule, earliest_of, numbers_of, refreshed}
+use Rattle.codec_payload_feedback_requests.specs.NackSchedule.{Schedule, earliest_of, numbers_of, refreshed, slowest_of}
 use Rattle.codec_payload_feedback_requests.proofs.NackLemmas.{refreshed_rises, same_again}
 use Rattle.codec_payload_feedback_requests.proofs.nack.NackSchedule.refresh.Goals as goal
 
@@ -13,4 +13,5 @@ invariant_of-self-2 c =
     record {
       rising = rw (c.swap.ensures.x_after, c.in_ok-merge.ensures) (refreshed_rises c.self.inside.settings c.args.now.0 c.args.missing.now c.deref-2.result.now);
       earliest_is = c.earliest_of-self-inside.ensures ∙ ap earliest_of c.deref-3.ensures.value;
+      slowest_is = c.slowest_of-self-inside.ensures ∙ ap slowest_of c.deref-4.ensures.value;
     }

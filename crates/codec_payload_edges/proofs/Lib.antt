@@ -1,0 +1,4 @@
+mod BetweenLemmas
+mod SenderLemmas
+mod OwnLemmas
+mod OwnPictureLemmas

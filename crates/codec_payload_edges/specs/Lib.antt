@@ -1,0 +1,4 @@
+pub mod Edges
+pub mod OwnSenders
+pub mod Pictures
+pub mod Senders

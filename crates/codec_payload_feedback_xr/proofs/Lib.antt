@@ -1,0 +1,4 @@
+mod TimeLemmas
+mod XrGrammar
+mod XrLemmas
+mod XrRoundTrip

@@ -1,0 +1,4 @@
+pub mod RoundTrip
+pub mod Xr
+pub mod XrReading
+pub mod XrWriting

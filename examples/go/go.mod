@@ -1,0 +1,3 @@
+module codec_payload
+
+go 1.19
