@@ -127,20 +127,24 @@ static GstEvent *event_comes(Port *port, GstEventType type) {
     }
 }
 
-/* Lets the clock go on to the next deadline of the session, which is at most that time: an earlier one may be armed in this moment. */
-static void next_deadline(Port *port, GstClockTime most) {
+/* Lets the clock go on from deadline to deadline of the session until the pad has a buffer. None of them is later than `most`. The thread
+ * of the session arms its next deadline by itself, so an id that is pending now may be replaced in the next moment. */
+static void deadlines_until(Port *port, GstHarness *pad, GstClockTime most) {
     g_autoptr(GstTestClock) clock = gst_harness_get_testclock(port->h);
-    GstClockTime at = GST_CLOCK_TIME_NONE;
-    while (at > most) {
-        GstClockID id = NULL;
-        gst_test_clock_wait_for_next_pending_id(clock, &id);
-        at = gst_clock_id_get_time(id);
-        gst_clock_id_unref(id);
-        if (at > most) g_usleep(1000);
+    for (guint turn = 0; gst_harness_buffers_in_queue(pad) == 0; turn++) {
+        GstClockID id = NULL, done = NULL;
+        g_assert_cmpuint(turn, <, 30000);
+        if (gst_test_clock_peek_next_pending_id(clock, &id)) {
+            GstClockTime at = gst_clock_id_get_time(id);
+            gst_clock_id_unref(id);
+            if (at <= most) {
+                if (at > gst_clock_get_time(GST_CLOCK(clock))) gst_test_clock_set_time(clock, at);
+                done = gst_test_clock_process_next_clock_id(clock);
+                if (done) gst_clock_id_unref(done);
+            }
+        }
+        if (!done) g_usleep(1000);
     }
-    if (at > gst_clock_get_time(GST_CLOCK(clock))) gst_test_clock_set_time(clock, at);
-    GstClockID done = gst_test_clock_process_next_clock_id(clock);
-    if (done) gst_clock_id_unref(done);
 }
 
 /* ---- Tests of cpaysession ---- */
@@ -185,7 +189,7 @@ static void a_loss_is_a_gap(void) {
         if (i != 3) push_audio(&port, i, 0);
     for (guint i = 0; i < 3; i++) audio_comes(&port, i);
     g_assert_cmpuint(gst_harness_buffers_in_queue(port.h), ==, 0);
-    next_deadline(&port, 5 * FRAME + 200 * GST_MSECOND);
+    deadlines_until(&port, port.h, 5 * FRAME + 200 * GST_MSECOND);
     g_autoptr(GstTestClock) clock = gst_harness_get_testclock(port.h);
     GstClockTime now = gst_clock_get_time(GST_CLOCK(clock));
     g_assert_cmpuint(now, >=, 4 * FRAME + 100 * GST_MSECOND);
@@ -378,7 +382,7 @@ static void losses_and_keyframes_are_requested(void) {
     for (guint i = 0; i < 15; i++) gst_buffer_unref(pull(&port));
     push_video(&port, 16, FALSE);
     g_assert_cmpuint(gst_harness_buffers_in_queue(port.rtcp), ==, 0);
-    next_deadline(&port, 16 * PICTURE + 20 * GST_MSECOND);
+    deadlines_until(&port, port.rtcp, 16 * PICTURE + 20 * GST_MSECOND);
     g_autoptr(GstBuffer) request = gst_harness_pull(port.rtcp);
     g_assert_cmpuint(requested_number(request), ==, 115);
     g_assert_cmpuint(gst_harness_buffers_in_queue(port.h), ==, 0);
