@@ -147,6 +147,13 @@ static const char *read_section(peer *it, const cpay_sdp_media *media, const pee
     return NULL;
 }
 
+/* Forgets the header extensions that the answer does not accept: other stacks give one id to different ones in two sections. */
+static void forget_extensions(const peer *it, cpay_sdp_media *media) {
+    media->extension_ids = (cpay_extension_ids){0};
+    media->send_time_id = media->offset_id = media->dependency_descriptor_id = 0;
+    if (it->layers_len < 2) media->mid_id = media->rid_id = media->repaired_rid_id = 0;
+}
+
 /* The first fingerprint of SHA-256 in a section. */
 static bool read_fingerprint(peer *it, const cpay_sdp_transport *transport) {
     for (size_t i = 0; i < transport->fingerprint_count; i++) {
@@ -173,6 +180,7 @@ const char *answer(peer *it, const char *offer, bool publishes, unsigned *status
     *status = NOT_ACCEPTABLE;
     for (size_t i = 0; i < read.count && !fault; i++) fault = read_section(it, &media[i], of);
     if (fault) return fault;
+    for (size_t i = 0; i < read.count; i++) forget_extensions(it, &media[i]);
     if (!it->media[AUDIO].used && !it->media[VIDEO].used) return "The offer has no audio or video that can be forwarded.\n";
     *status = BAD;
     fault = publishes ? publisher_begin(it, media, read.count) : viewer_begin(it, of);

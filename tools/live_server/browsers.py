@@ -202,6 +202,10 @@ class Page:
     def frames(self):
         return self.statistic("watch").get("framesDecoded", 0)
 
+    def said(self):
+        """The sentence that the page shows."""
+        return self.evaluate("document.getElementById('said').textContent")
+
     def choose(self, field, value):
         self.evaluate(f"(document.getElementById('{field}').value = '{value}', document.getElementById('{field}').onchange(), 0)")
 

@@ -2,6 +2,7 @@
  *
  *     POST /whip/NAME, POST /whep/NAME   an offer: 201, the answer, and the Location of the session
  *     DELETE /session/ID                 ends it
+ *     GET /session/ID/end                why it ended, for a while
  *     PUT /session/ID/layer              of a viewer: the RID of a layer, or T0 to T3, the highest temporal layer
  *     PUT /network                       loss=PERCENT reorder=PERCENT delay=MS
  *     GET /stats, GET / */
@@ -73,10 +74,20 @@ static enum MHD_Result publish_or_watch(const request *from, bool publishes) {
     return reply(from, status, "application/sdp", text, location);
 }
 
+/* Why a session ended: `ID/end`. */
+static enum MHD_Result session_end(const request *from, const char *path) {
+    char id[sizeof peers->id] = "", why[sizeof peers->why + 2];
+    const char *rest = strchr(path, '/');
+    if (rest && (size_t)(rest - path) < sizeof id) memcpy(id, path, (size_t)(rest - path));
+    if (strcmp(from->method, "GET") || !rest || strcmp(rest, "/end") || !peer_end(id, why, sizeof why))
+        return say(from, MHD_HTTP_NOT_FOUND, "There is no such session.\n");
+    return say(from, MHD_HTTP_OK, why);
+}
+
 static enum MHD_Result session(const request *from) {
     const char *rest = from->url + strlen("/session/");
     peer *it = peer_session(rest);
-    if (!it) return say(from, MHD_HTTP_NOT_FOUND, "There is no such session.\n");
+    if (!it) return session_end(from, rest);
     if (!strcmp(from->method, "PATCH"))
         return say(from, MHD_HTTP_METHOD_NOT_ALLOWED, "ICE-lite needs neither trickle nor restarts.\n");
     rest += strlen(it->id);
@@ -127,7 +138,11 @@ static enum MHD_Result answer_request(const request *from) {
     if (from->size >= MOST_BODY) return say(from, MHD_HTTP_CONTENT_TOO_LARGE, "The body is too long.\n");
     if (!strcmp(method, "OPTIONS")) return say(from, MHD_HTTP_OK, "");
     if (gets && !strcmp(url, "/")) return show_page(from);
-    if (!is_allowed(from)) return say(from, MHD_HTTP_UNAUTHORIZED, "This server asks for a token.\n");
+    if (!is_allowed(from))
+        return say(from, MHD_HTTP_UNAUTHORIZED,
+                   MHD_lookup_connection_value(from->connection, MHD_HEADER_KIND, "Authorization")
+                       ? "The token is wrong.\n"
+                       : "This server asks for a token.\n");
     if (gets && !strcmp(url, "/stats")) return show_stats(from);
     if (posts && !strncmp(url, "/whip/", 6)) return publish_or_watch(from, true);
     if (posts && !strncmp(url, "/whep/", 6)) return publish_or_watch(from, false);

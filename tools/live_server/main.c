@@ -5,6 +5,7 @@
 #include <arpa/inet.h>
 #include <errno.h>
 #include <ifaddrs.h>
+#include <limits.h>
 #include <net/if.h>
 #include <poll.h>
 #include <signal.h>
@@ -18,7 +19,7 @@
 enum { TICK = 50 }; /* ms between two looks at all peers */
 
 options the = {
-    .address = "127.0.0.1", .folder = "recordings", .page = "page.html", .http = 8080, .udp = 8081, .bitrate = 2500000};
+    .address = "127.0.0.1", .folder = "recordings", .http = 8080, .udp = 8081, .bitrate = 2500000};
 static volatile sig_atomic_t ended;
 
 static const struct argp_option names[] = {
@@ -27,7 +28,7 @@ static const struct argp_option names[] = {
     {"udp", 'u', "N", 0, "port of the media (8081)", 0},
     {"candidate", 'c', "A", 0, "address under which browsers reach the UDP port; up to 4 (those of the interfaces)", 0},
     {"folder", 'f', "F", 0, "folder of the recordings (recordings)", 0},
-    {"page", 'p', "F", 0, "file of the page (page.html)", 0},
+    {"page", 'p', "F", 0, "file of the page (page.html here, or beside the program)", 0},
     {"token", 't', "WORD", 0, "who publishes, watches or changes something must know this word", 0},
     {"feedback", 'k', "KIND", 0, "transport: feedback about each packet (default); remb: a largest bitrate; none", 0},
     {"bitrate", 'b', "N", 0, "that bitrate, in kbit/s (2500)", 0},
@@ -109,6 +110,7 @@ void take_media(const struct sockaddr_in *from, uint8_t *bytes, size_t size) {
     bool rtcp = cpay_is_rtcp(bytes, size);
     int length = (int)size;
     if (!it || !it->secure || it->ended || (rtcp ? srtp_unprotect_rtcp : srtp_unprotect)(it->in, bytes, &length)) return;
+    it->heard = now_ms();
     if (length > 0 && happens(the.damage)) bytes[(int)(drand48() * length)] ^= (uint8_t)lrand48();
     if (it->publisher) publisher_take(it, bytes, (size_t)length);
     else if (rtcp) viewer_take(it, bytes, (size_t)length);
@@ -123,6 +125,19 @@ static void take(const struct sockaddr_in *from, uint8_t *bytes, size_t size) {
     else if (bytes[0] >= 128 && bytes[0] < 192 && network_passes(false, from, bytes, size)) take_media(from, bytes, size);
 }
 
+/* The page: the one of --page, page.html here, or the one beside the program. */
+static void find_page(void) {
+    static char beside[PATH_MAX];
+    if (!the.page && !access("page.html", R_OK)) the.page = "page.html";
+    ssize_t size = the.page ? -1 : readlink("/proc/self/exe", beside, sizeof beside - sizeof "page.html");
+    char *name = size > 0 ? memrchr(beside, '/', (size_t)size) : NULL;
+    if (name) {
+        strcpy(name + 1, "page.html");
+        the.page = beside;
+    }
+    if (!the.page || access(the.page, R_OK)) give_up(the.page ? the.page : "page.html", "cannot be read; --page names the file");
+}
+
 static void on_signal(int number) { ended = number; }
 
 static void start(void) {
@@ -132,7 +147,7 @@ static void start(void) {
     signal(SIGXFSZ, SIG_IGN); /* a recording that becomes too large for the system is a fault of that recording alone */
     if (mkdir(the.folder, 0777) && errno != EEXIST) give_up(the.folder, strerror(errno));
     if (access(the.folder, W_OK | X_OK)) give_up(the.folder, strerror(errno));
-    if (access(the.page, R_OK)) give_up(the.page, strerror(errno));
+    find_page();
     find_candidates();
     if (the.candidates_len == 0) add_candidate(the.address);
     dtls_start();

@@ -9,6 +9,14 @@ peer peers[MOST_PEERS];
 /* The peer that was seen last at an address with this port. It is only a guess, and compared. */
 static peer *by_port[65536];
 
+/* Why the latest sessions ended, in a ring: their pages ask. */
+enum { MOST_ENDS = 64 };
+static struct {
+    char id[sizeof peers->id];
+    char why[sizeof peers->why];
+} ends[MOST_ENDS];
+static size_t ends_count;
+
 void secret(void *bytes, size_t size) {
     if (RAND_bytes(bytes, (int)size) != 1) give_up("random bytes", "none");
 }
@@ -47,8 +55,29 @@ void peer_says(const peer *it, const char *what) {
             (unsigned long long)it->number, it->name, what, (unsigned long long)(now_ms() - it->began));
 }
 
+/* Notes why a session ended. */
+static void remember_end(const peer *it) {
+    size_t place = ends_count++ % MOST_ENDS;
+    memcpy(ends[place].id, it->id, sizeof it->id);
+    snprintf(ends[place].why, sizeof ends[place].why, "%s", it->why[0] ? it->why : "It said goodbye.");
+}
+
+bool peer_end(const char *id, char *to, size_t room) {
+    for (size_t i = 0; i < MOST_ENDS && i < ends_count; i++) {
+        if (strlen(id) != strlen(ends[i].id) || CRYPTO_memcmp(id, ends[i].id, strlen(id))) continue;
+        snprintf(to, room, "%s\n", ends[i].why);
+        return true;
+    }
+    return false;
+}
+
+bool peer_is_silent(const peer *it) { return now_ms() - it->heard > LONGEST_QUIET; }
+
 void peer_free(peer *it) {
-    if (it->publisher || it->viewer) peer_says(it, "it leaves");
+    if (it->publisher || it->viewer) {
+        peer_says(it, "it leaves");
+        remember_end(it);
+    }
     network_flush();
     if (it->publisher) publisher_free(it);
     if (it->viewer) viewer_free(it);
@@ -101,8 +130,11 @@ static bool has_other_codec(const peer *viewer, const peer *of) {
  * Viewers stay, unless the codec is another one: their pages ask again. */
 void peer_secured(peer *of) {
     EACH_PEER (it) {
-        if (!of->publisher || it == of || strcmp(it->name, of->name)) continue;
-        if (it->publisher ? it->secure : has_other_codec(it, of)) it->ended = true;
+        if (!of->publisher || it == of || it->ended || strcmp(it->name, of->name)) continue;
+        if (!(it->publisher ? it->secure : has_other_codec(it, of))) continue;
+        it->ended = true;
+        snprintf(it->why, sizeof it->why, it->publisher ? "Publisher %llu took the name %s." : "Publisher %llu of %s sends another codec.",
+                 (unsigned long long)of->number, of->name);
     }
 }
 
@@ -111,6 +143,8 @@ void peers_tick(uint64_t now) {
         dtls_tick(it);
         if (it->publisher) publisher_tick(it, now);
         if (it->viewer) viewer_tick(it, now);
-        if (it->ended || now - it->heard > LONGEST_SILENCE || (!it->secure && now - it->began > LONGEST_START)) peer_free(it);
+        bool silent = now - it->heard > LONGEST_SILENCE, late = !it->secure && now - it->began > LONGEST_START;
+        if (!it->ended && (silent || late)) snprintf(it->why, sizeof it->why, late ? "No media came through." : "It was silent.");
+        if (it->ended || silent || late) peer_free(it);
     }
 }

@@ -20,7 +20,8 @@ enum {
     MOST_DATAGRAM = 1500,    /* bytes of a datagram without SRTP */
     MOST_NAME = 32,          /* bytes of a name with the 0 at its end */
     SRTP_ROOM = 64,          /* bytes that SRTP may add */
-    LONGEST_SILENCE = 15000, /* ms after which a peer that sends no STUN is gone */
+    LONGEST_SILENCE = 15000, /* ms after which a peer that sends neither STUN nor SRTP is gone */
+    LONGEST_QUIET = 4000,    /* ms after which the counts call it silent: Chromium sends STUN each 2.5 s */
     LONGEST_START = 20000    /* ms that a peer has for ICE and DTLS */
 };
 
@@ -56,7 +57,8 @@ typedef struct {
     unsigned known_len;
     bool secure;           /* DTLS has ended, and the keys of SRTP are there */
     bool ended;            /* it said goodbye */
-    uint64_t began, heard; /* ms: when its offer came, and its latest STUN request */
+    char why[96];          /* a sentence: why it ended, if it did not say goodbye */
+    uint64_t began, heard; /* ms: when its offer came, and its latest STUN request or packet of SRTP */
     SSL *ssl;
     srtp_t in, out;
     agreed media[KINDS];
@@ -118,6 +120,8 @@ void peer_free(peer *it);
 void peer_says(const peer *it, const char *what); /* a line of the log, with the time since its offer */
 peer *peer_publisher(const char *name);           /* who publishes under the name */
 peer *peer_session(const char *path);             /* whose id the path begins with */
+bool peer_end(const char *id, char *to, size_t room); /* why a session ended; false: it lives, or is forgotten */
+bool peer_is_silent(const peer *it);
 peer *peer_at(const struct sockaddr_in *from);
 void peer_seen(peer *it, const struct sockaddr_in *at, bool nominated);
 void peer_secured(peer *it);
@@ -158,7 +162,7 @@ int last_track(const peer *it); /* of video: the layer that is recorded, and tha
 /* viewers.c */
 const char *viewer_begin(peer *it, peer *of);   /* NULL, or what is wrong */
 uint32_t viewer_ssrc(const peer *it, int kind); /* that of retransmissions is one more */
-void viewers_forward(peer *from, int track, const uint8_t *datagram, size_t size);
+bool viewers_forward(peer *from, int track, const uint8_t *datagram, size_t size); /* false: the packet came before */
 bool viewer_wants_layer(peer *it, const char *name);
 void viewer_take(peer *it, const uint8_t *bytes, size_t size); /* RTCP */
 void viewer_tick(peer *it, uint64_t now);

@@ -47,12 +47,21 @@ class Server:
 
     def __enter__(self):
         self.folder = tempfile.TemporaryDirectory(ignore_cleanup_errors=True)
-        words = [HERE / self.program, "--http", str(self.http), "--udp", str(self.udp), "--folder", self.folder.name, "--page", HERE / "page.html", *self.options]
         self.file = open(f"{self.folder.name}/server.log", "w+")
-        limit = self.largest_file and (lambda: resource.setrlimit(resource.RLIMIT_FSIZE, (self.largest_file, self.largest_file)))
-        self.process = subprocess.Popen(words, stdout=self.file, stderr=self.file, preexec_fn=limit)
-        wait_for("server", lambda: self.process.poll() is not None or b"http://" in pathlib.Path(self.file.name).read_bytes())
+        self.run()
         return self
+
+    def run(self):
+        words = [HERE / self.program, "--http", str(self.http), "--udp", str(self.udp), "--folder", self.folder.name, "--page", HERE / "page.html", *self.options]
+        limit = self.largest_file and (lambda: resource.setrlimit(resource.RLIMIT_FSIZE, (self.largest_file, self.largest_file)))
+        begun = pathlib.Path(self.file.name).read_bytes().count(b"http://")
+        self.process = subprocess.Popen(words, stdout=self.file, stderr=self.file, preexec_fn=limit)
+        wait_for("server", lambda: self.process.poll() is not None or pathlib.Path(self.file.name).read_bytes().count(b"http://") > begun)
+
+    def kill(self):
+        """The server ends without a word, and can run again on its ports."""
+        self.process.kill()
+        self.process.wait()
 
     def browser(self, kind=Chromium):
         if kind not in self.browsers:
@@ -155,7 +164,7 @@ def call(codec, loss, seconds, *options, relay_loss=None, program="live_server")
         video, sound, resent = it.streams()[0], it.streams(kind="audio")[0], it.streams("viewers")[0]["resent"]
         sends.close()
         time.sleep(0.5)
-    figures |= {name: video[name] for name in ("packets", "lost", "requested", "recovered", "undecodable", "frames", "longestWait")} | {
+    figures |= {name: video[name] for name in ("packets", "lost", "requested", "recovered", "undecodable", "frames", "longestWait", "late", "duplicates", "probes")} | {
         "first": first, "resent": resent, "audio lost": sound["lost"], "audio recovered": sound["recovered"],
         "concealed": 100 * audio.get("concealedSamples", 0) / max(1, audio.get("totalSamplesReceived", 1)), "recorded": it.recordings[0].frames}
     require(it.recordings[0].faults == "", f"the recording: {it.recordings[0].faults}")

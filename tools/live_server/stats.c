@@ -10,8 +10,8 @@ static void add_peers(FILE *to, bool viewers) {
     const char *comma = "";
     EACH_PEER (it) {
         if (viewers ? !it->viewer : !it->publisher) continue;
-        fprintf(to, "%s{" COUNT("number") "\"name\":\"%s\",\"connected\":%s,", comma, it->number, it->name,
-                it->secure ? "true" : "false");
+        fprintf(to, "%s{" COUNT("number") "\"name\":\"%s\",\"connected\":%s,\"silent\":%s,", comma, it->number, it->name,
+                it->secure ? "true" : "false", peer_is_silent(it) ? "true" : "false");
         if (viewers) viewer_stats(it, to);
         else publisher_stats(it, to);
         fputs("}", to);
@@ -21,8 +21,10 @@ static void add_peers(FILE *to, bool viewers) {
 }
 
 void stats(FILE *to) {
-    fprintf(to, "{" COUNT("now") "\"network\":{\"loss\":%g,\"reorder\":%g," COUNT("dropped") "\"delay\":%u},\"publishers\":[",
-            now_ms(), the.network.loss, the.network.reorder, network_dropped, the.network.delay);
+    static uint32_t run;
+    if (!run) secret(&run, sizeof run);
+    fprintf(to, "{" COUNT("now") "\"run\":%" PRIu32 ",\"network\":{\"loss\":%g,\"reorder\":%g," COUNT("dropped") "\"delay\":%u},\"publishers\":[",
+            now_ms(), run, the.network.loss, the.network.reorder, network_dropped, the.network.delay);
     add_peers(to, false);
     fputs(",\"viewers\":[", to);
     add_peers(to, true);

@@ -19,14 +19,17 @@ import os
 import random
 import re
 import shutil
+import signal
 import socket
 import struct
 import subprocess
 import sys
+import tempfile
 import threading
 import time
+import urllib.request
 
-from browsers import Chromium, Failed, Firefox, firefox, require, wait_for
+from browsers import Chromium, Failed, Firefox, Page, firefox, require, wait_for
 from servers import HERE, Server, call, free_port, publisher_of, real_time, viewer_of
 
 sys.path.append(str(HERE.parent / "chromium"))
@@ -46,7 +49,7 @@ def test_call(codec, loss):
     require(figures["shown"] > (0.9 if loss < 10 else 0.75) * figures["sent"], figures)
     require(figures["sent"] > 60, figures)
     if loss == 0:
-        require(figures["undecodable"] == 0 and figures["requested"] == 0, figures)
+        require(figures["undecodable"] == figures["requested"] == figures["late"] == figures["duplicates"] == 0, figures)
     elif figures["lost"] > 20:
         require(figures["recovered"] > 0.8 * figures["lost"], figures)
     return f"{figures['shown']} of {figures['sent']} frames shown, {figures['freezes']} freezes, {figures['lost']} lost, {figures['recovered']} recovered"
@@ -285,22 +288,147 @@ def test_sessions():
         for wanted, *request in [
             (405, "PATCH", publisher), (404, "PUT", publisher + "/other"), (409, "PUT", publisher + "/layer", "T1"),
             (200, "PUT", viewer + "/layer", "T1"), (409, "PUT", viewer + "/layer", "T4"), (409, "PUT", viewer + "/layer", "half"),
-            (404, "DELETE", viewer + "x"), (404, "DELETE", viewer[:-1]), (404, "GET", viewer), (200, "DELETE", viewer), (200, "DELETE", publisher),
+            (404, "DELETE", viewer + "x"), (404, "DELETE", viewer[:-1]), (404, "GET", viewer), (404, "GET", viewer + "/end"),
+            (200, "DELETE", viewer), (200, "DELETE", publisher),
         ]:
             answers(it, wanted, *request)
         require(answers(it, 200, "OPTIONS", viewer)["Access-Control-Allow-Origin"] == "*", "pages of others may publish and watch")
         require(answers(it, 200, "OPTIONS", "/stats")["Access-Control-Allow-Origin"] is None, "pages of others may not read the counts")
         wait_for("end of both", lambda: not it.stats()["publishers"] and not it.stats()["viewers"], 5)
         answers(it, 404, "DELETE", viewer)
+        answers(it, 404, "GET", viewer)
+        require(it.request("GET", viewer + "/end")[:2] == (200, "It said goodbye.\n"), "why a session ended")
     return "all"
 
 
 def test_token():
-    """A page that has the token publishes."""
+    """A page that has the token publishes. One without it, or with another one, says so."""
     with Server("--token", "secret") as it:
         page = it.page("publish=camera&token=secret")
         wait_for("frame", lambda: page.statistic("publish").get("framesSent", 0) > 30)
-    return "published"
+        said = [reads(it.page(f"watch&{query}"), words, 5) for query, words in (("", "asks for a token"), ("token=other", "token is wrong"))]
+    return f"published; {said}"
+
+
+# ---- what a person reads ----
+
+
+def reads(page, words, limit):
+    """The sentence of a page, once it has these words. How long that took is checked."""
+    return wait_for(f"{words!r} on the page, which says {page.said()!r}", lambda: words in page.said() and page.said(), limit)
+
+
+def goes_on(viewer, what, limit=30):
+    """A viewer shows more frames."""
+    before = viewer.frames()
+    wait_for(f"frame {what}", lambda: viewer.frames() > before + 10 or viewer.frames() + 10 < before and viewer.frames() > 10, limit)
+
+
+def next_publisher(it):
+    """A page that publishes after others, once the server has a frame of it."""
+    latest = max((each["number"] for each in it.stats()["publishers"]), default=0)
+    page = it.page("publish=camera")
+    wait_for("frame of the next publisher", lambda: any(each["number"] > latest and any(stream["frames"] > 0 for stream in each["streams"] if stream["kind"] == "video")
+                                                        for each in it.stats()["publishers"]))
+    return page
+
+
+def test_left():
+    """A publisher stops, closes its page, is killed: the viewer reads it within 2 s, or 5 s, and goes on with the next one."""
+    took = []
+    with Server() as it:
+        other = Chromium(tempfile.mkdtemp(dir=it.folder.name))
+        publisher = publisher_of(it)
+        viewer = viewer_of(it)
+
+        def left(how, limit):
+            began = time.monotonic()
+            how()
+            reads(viewer, "The publisher left.", limit)
+            took.append(round(time.monotonic() - began, 1))
+
+        left(lambda: publisher.click("publish"), 2)
+        publisher.click("publish")
+        goes_on(viewer, "after it stopped")
+        reads(viewer, "Watching: connected", 2)
+        left(publisher.close, 2)
+        Page(other, f"http://127.0.0.1:{it.http}/?publish=camera")
+        goes_on(viewer, "after it was closed")
+        reads(viewer, "Watching: connected", 2)
+        left(lambda: os.killpg(other.process.pid, signal.SIGKILL), 5.5)
+        other.process.wait()
+        next_publisher(it)
+        goes_on(viewer, "after it was killed")
+    return f"read after {took} s"
+
+
+def test_restart():
+    """The server is killed and started again: both pages say that it does not answer, and go on without a click."""
+    with Server() as it:
+        publisher, viewer = publisher_of(it), viewer_of(it)
+        it.kill()
+        for page in (publisher, viewer):
+            reads(page, "The server does not answer.", 3)
+        time.sleep(2)
+        it.run()
+        began = time.monotonic()
+        wait_for("publisher again", lambda: it.streams() and it.streams()[0]["frames"] > 0)
+        goes_on(viewer, "after the restart")
+        took = time.monotonic() - began
+        for page in (publisher, viewer):
+            require("does not answer" not in page.said(), page.said())
+    return f"both go on after {took:.1f} s"
+
+
+def test_blocked():
+    """No media gets through: within 5 s both pages name the port, the firewall and --candidate."""
+    with Server("--candidate", "192.0.2.1") as it:
+        page = it.page("publish=camera")
+        said = reads(page, "--candidate", 8)
+        require(str(it.udp) in said and "192.0.2.1" in said and "firewall" in said, said)
+        wait_for("end", lambda: page.evaluate("window.state.publish === null"), 40)
+        require("--candidate" in page.said(), page.said())
+    return said
+
+
+def test_taken():
+    """A second publisher of the name: the first page says who took it, and stops."""
+    with Server() as it:
+        first, viewer = publisher_of(it), viewer_of(it)
+        next_publisher(it)
+        said = reads(first, "took the name live", 10)
+        number = it.stats()["publishers"][0]["number"]
+        require(f"Publisher {number} " in said and len(it.stats()["publishers"]) == 1, said)
+        goes_on(viewer, "of the second publisher")
+    return said
+
+
+def test_camera():
+    """A browser without a camera, or that may not use it, offers the test picture."""
+    said = []
+    with Server() as it:
+        for name in ("NotFoundError", "NotAllowedError", "NotReadableError"):
+            script = f"navigator.mediaDevices.getUserMedia = () => Promise.reject(new DOMException('', '{name}'));"
+            said.append(reads(it.page("publish=camera", script=script), "You can take the test picture.", 5))
+    require(len(set(said)) == 3, said)
+    return "; ".join(said)
+
+
+def test_elsewhere():
+    """The program finds its page beside itself, or says how to name it."""
+    ports = ["--http", str(free_port(socket.SOCK_STREAM)), "--udp", str(free_port(socket.SOCK_DGRAM))]
+    with tempfile.TemporaryDirectory() as folder:
+        process = subprocess.Popen([HERE / "live_server", *ports], cwd=folder, stdout=subprocess.PIPE, stderr=subprocess.DEVNULL)
+        require(process.stdout.readline().startswith(b"http://"), "no address")
+        page = urllib.request.urlopen(f"http://127.0.0.1:{ports[1]}/", timeout=10).read()
+        process.terminate()
+        process.wait(10)
+        process.stdout.close()
+        require(page == (HERE / "page.html").read_bytes(), "another page")
+        shutil.copy(HERE / "live_server", folder)
+        alone = subprocess.run([f"{folder}/live_server", *ports], cwd=folder, capture_output=True, text=True, timeout=10)
+    require(alone.returncode == 1 and "--page" in alone.stderr, alone.stderr)
+    return alone.stderr.strip()
 
 
 def test_disk():
@@ -340,7 +468,10 @@ def test_picture(path=None):
         path = path or f"{it.folder.name}/page.webp"
         page.shot(path)
         size = os.path.getsize(path)
+        named = page.evaluate("[...document.querySelectorAll('.card')].filter((each) => each.title && /now .*, at most /.test(each.querySelector('canvas').ariaLabel)"
+                              " && Number(each.querySelector('small').textContent) > 0).length")
     require(drawn == plots >= 20, f"{drawn} of {plots} plots have a line")
+    require(named == plots, f"{named} of {plots} plots have a name, an explanation and a scale")
     require(size > 20000, f"a picture of {size} bytes")
     return f"{plots} plots have a line; a picture of {size} bytes"
 
@@ -351,6 +482,26 @@ PLOTS = """(() => {
   const drawn = all.filter((each) => each.getContext("2d").getImageData(0, 0, each.width, each.height).data.some((value) => value));
   return [drawn.length, all.length];
 })()"""
+
+
+def test_aiortc(seconds=20):
+    """aiortc publishes: its sections give one id to different header extensions. Without STUN its stream lives on by its media."""
+    python = "/usr/bin/python3"
+    if subprocess.run([python, "-c", "import aiortc"], capture_output=True).returncode:
+        raise Skipped("aiortc is not installed")
+    with Server() as it:
+        words = [python, HERE / "aiortc_publisher.py", f"http://127.0.0.1:{it.http}/whip/live", str(seconds), "silent"]
+        sends = subprocess.Popen(words, stdout=subprocess.PIPE, stderr=subprocess.DEVNULL, text=True)
+        wait_for("frame of aiortc", lambda: it.streams() and it.streams()[0]["frames"] > 0)
+        number, viewer = it.stats()["publishers"][0]["number"], viewer_of(it)
+        time.sleep(seconds - 5)
+        publishers = it.stats()["publishers"]
+        require([each["number"] for each in publishers] == [number] and not publishers[0]["silent"], publishers)
+        shown = viewer.frames()
+        said, _ = sends.communicate(timeout=30)
+    require(said.split() == ["201", "connected"], said)
+    require(shown > 10 * seconds, f"{shown} frames shown")
+    return f"{shown} frames shown, no STUN for {seconds} s"
 
 
 # ---- strangers ----
@@ -450,7 +601,8 @@ TESTS = {f"{codec}-{loss}": (lambda codec=codec, loss=loss: test_call(codec, los
 TESTS |= {f"firefox-{name}": (lambda words=words: test_firefox(*words)) for name, words in {
     "publishes": (Firefox, Chromium, "VP8", 0), "watches": (Chromium, Firefox, "VP8", 0), "VP8-5": (Firefox, Firefox, "VP8", 5),
     "VP9-2": (Firefox, Firefox, "VP9", 2), "AV1-2": (Firefox, Firefox, "AV1", 2)}.items()}
-TESTS |= {name: globals()[f"test_{name}"] for name in ("refusals", "sessions", "token", "disk", "phone", "picture", "reordered", "viewers", "conference", "feedback", "layers", "fits", "reload", "damaged", "hostile")}
+TESTS |= {name: globals()[f"test_{name}"] for name in ("refusals", "sessions", "token", "disk", "phone", "picture", "reordered", "viewers", "conference", "feedback", "layers", "fits", "reload",
+                                                      "left", "restart", "blocked", "taken", "camera", "elsewhere", "aiortc", "damaged", "hostile")}
 
 
 def main():

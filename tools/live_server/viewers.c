@@ -151,12 +151,14 @@ static void forward_early(peer *it, peer *from, int track, uint16_t number) {
             forward_to(it, from, track, datagram, size);
 }
 
-void viewers_forward(peer *from, int track, const uint8_t *datagram, size_t size) {
+bool viewers_forward(peer *from, int track, const uint8_t *datagram, size_t size) {
     cpay_kept_once kept = CPAY_KEPT_KNOWN;
-    if (cpay_history_keep_once(&publisher_source(from, track)->store, datagram, size, &kept) || kept != CPAY_KEPT_NEW) return;
+    if (cpay_history_keep_once(&publisher_source(from, track)->store, datagram, size, &kept)) return true;
+    if (kept != CPAY_KEPT_NEW) return kept != CPAY_KEPT_KNOWN;
     EACH_PEER (it)
         if (it->viewer && !strcmp(it->name, from->name) && forward_to(it, from, track, datagram, size))
             forward_early(it, from, track, (uint16_t)AV_RB16(datagram + 2));
+    return true;
 }
 
 /* ---- RTCP of a viewer ---- */
