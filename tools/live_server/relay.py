@@ -1,11 +1,14 @@
 """A network between browsers, or between a browser and live_server: a relay of datagrams that loses a part of the SRTP."""
 
+import heapq
+import itertools
 import json
 import random
 import re
 import select
 import socket
 import threading
+import time
 
 from browsers import Page, wait_for
 
@@ -49,6 +52,40 @@ class Relay(threading.Thread):
         self.addresses[side] = next((host, int(port)) for host, port in CANDIDATE.findall(text) if host == "127.0.0.1")
         mine = self.ports[1 - side].getsockname()[1]
         return re.sub(r"(a=ice-ufrag)", f"a=candidate:1 1 udp 2130706431 127.0.0.1 {mine} typ host\r\n\\1", CANDIDATE.sub("", text))
+
+
+class Narrow(Relay):
+    """A relay whose second side sends to the first one over a narrow link: so many bit/s, with a queue of so many seconds that drops
+    what does not fit, and 20 ms each way."""
+
+    def __init__(self, rate, longest):
+        super().__init__(0)
+        self.rate, self.longest, self.free, self.waiting = rate, longest, 0, []
+
+    def due(self, side, data):
+        """When a datagram of this side is delivered. None: it is dropped."""
+        now = time.monotonic()
+        if side == 0:
+            return now + 0.02
+        if max(now, self.free) - now > self.longest:
+            return None
+        self.free = max(now, self.free) + (len(data) + 28) * 8 / self.rate
+        return self.free + 0.02
+
+    def run(self):
+        for count in itertools.count():
+            if self.stopped:
+                return
+            wait = self.waiting[0][0] - time.monotonic() if self.waiting else 0.1
+            for port in select.select(self.ports, [], [], min(max(wait, 0), 0.1))[0]:
+                side = self.ports.index(port)
+                data, self.addresses[side] = port.recvfrom(2048)
+                if due := self.due(side, data):
+                    heapq.heappush(self.waiting, (due, count, side, 1 - side, data))
+            while self.waiting and self.waiting[0][0] <= time.monotonic():
+                *_, to, data = heapq.heappop(self.waiting)
+                if self.addresses[to]:
+                    self.ports[to].sendto(data, self.addresses[to])
 
 
 # ---- a call from browser to browser ----

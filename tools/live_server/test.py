@@ -30,6 +30,7 @@ import time
 import urllib.request
 
 from browsers import Chromium, Failed, Firefox, Page, firefox, require, wait_for
+from relay import Narrow
 from servers import HERE, Server, call, free_port, publisher_of, real_time, viewer_of
 
 sys.path.append(str(HERE.parent / "chromium"))
@@ -214,6 +215,24 @@ def test_fits():
         it.network()
         gets(640, "without loss again")
     return "by the window and by losses"
+
+
+def test_narrow(seconds=40):
+    """A viewer behind 300 kbit/s with a queue of 300 ms: what is resent does not fill its link, and it goes on with the small size."""
+    with Server() as it:
+        it.page("publish=camera&layers")
+        wait_for("both layers", lambda: sum(stream["frames"] > 10 for stream in it.streams()) == 2)
+        narrow = Narrow(300_000, 0.3)
+        viewer = viewer_of(it, script=narrow.to_server(it.udp))
+        shown, before = [], viewer.frames()
+        for _ in range(seconds // 5):
+            time.sleep(5)
+            shown, before = [*shown, viewer.frames() - before], viewer.frames()
+        video, freezes = it.streams("viewers")[0], viewer.statistic("watch")["freezeCount"]
+        narrow.stopped = True
+    figures = f"{shown} frames in each 5 s, {freezes} freezes, {video['resent']} of {video['packets']} packets resent, {video['refused']} requests refused"
+    require(min(shown[1:]) >= 25 and sum(shown[1:]) > 10 * (seconds - 5), figures)
+    return figures
 
 
 def test_reload():
@@ -601,7 +620,7 @@ TESTS = {f"{codec}-{loss}": (lambda codec=codec, loss=loss: test_call(codec, los
 TESTS |= {f"firefox-{name}": (lambda words=words: test_firefox(*words)) for name, words in {
     "publishes": (Firefox, Chromium, "VP8", 0), "watches": (Chromium, Firefox, "VP8", 0), "VP8-5": (Firefox, Firefox, "VP8", 5),
     "VP9-2": (Firefox, Firefox, "VP9", 2), "AV1-2": (Firefox, Firefox, "AV1", 2)}.items()}
-TESTS |= {name: globals()[f"test_{name}"] for name in ("refusals", "sessions", "token", "disk", "phone", "picture", "reordered", "viewers", "conference", "feedback", "layers", "fits", "reload",
+TESTS |= {name: globals()[f"test_{name}"] for name in ("refusals", "sessions", "token", "disk", "phone", "picture", "reordered", "viewers", "conference", "feedback", "layers", "fits", "narrow", "reload",
                                                       "left", "restart", "blocked", "taken", "camera", "elsewhere", "aiortc", "damaged", "hostile")}
 
 

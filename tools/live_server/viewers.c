@@ -4,10 +4,13 @@
 #include <libavutil/intreadwrite.h>
 #include <stdlib.h>
 #include <string.h>
+#include <sys/param.h>
 
 enum {
     REPORT_INTERVAL = 1000, /* ms between two sender reports */
     MOST_RESENT = 100,      /* packets in a tick of 50 ms: nobody makes the server a source of floods */
+    MOST_CREDIT = 60000,    /* bytes that are resent at once, at most; each byte that is sent gives half a byte of credit */
+    MOST_ANSWERED = 1024,   /* numbers of which is known when they were resent last */
     MOST_FILLED = 64,       /* packets of padding that are kept for requests */
     FILLED_FOR = 5000,      /* ms: numbers come again after 65,536 packets */
     EARLY = 64,             /* packets of a keyframe that may come before its first one */
@@ -24,7 +27,12 @@ struct outgoing {
     int track, wanted;    /* the publisher's track that it gets, and the one to go over to */
     int temporal, layers; /* the highest temporal layer that it is to get, and that of the picture that it gets now */
     unsigned resent_now;  /* in this tick */
-    uint64_t requested, not_kept, keyframes_wanted;
+    size_t credit;        /* bytes that may be resent: a narrow link is not filled with retransmissions, whose losses are requested again */
+    struct {
+        uint16_t number;
+        uint64_t at; /* ms */
+    } answered[MOST_ANSWERED];
+    uint64_t requested, refused, not_kept, keyframes_wanted;
     uint64_t report_sent;  /* ms */
     uint32_t report_ntp;   /* the middle 32 bits of its NTP time */
     report_block reported; /* by the viewer */
@@ -43,6 +51,7 @@ static bool begin_stream(outgoing *to, const agreed *media) {
     cpay_forwarder_settings settings;
     secret(&to->ssrc, sizeof to->ssrc);
     to->temporal = to->layers = ALL_LAYERS;
+    to->credit = MOST_CREDIT;
     if (!media->used) return true;
     cpay_forwarder_settings_init(&settings, media->codec, to->ssrc, media->payload_type);
     secret(&settings.first_time, sizeof settings.first_time);
@@ -135,6 +144,7 @@ static bool forward_to(peer *it, peer *from, int track, const uint8_t *datagram,
     size_t size = write_packet(to, kind, media->codec, datagram, datagram_len, out, &done);
     if (size == 0) return false;
     if (media->red_payload_type) size = wrap(to, media->red_payload_type, out, size);
+    to->credit = MIN(MOST_CREDIT, to->credit + size / 2);
     srtp_send(it, out, size, false);
     if (done == CPAY_FORWARDED_BEGAN) to->track = track;
     return done == CPAY_FORWARDED_BEGAN;
@@ -163,12 +173,26 @@ bool viewers_forward(peer *from, int track, const uint8_t *datagram, size_t size
 
 /* ---- RTCP of a viewer ---- */
 
+/* Whether a packet may be resent: each number once in a round trip, and as many bytes as there is credit for. */
+static bool may_resend(outgoing *to, uint16_t number) {
+    uint64_t now = now_ms();
+    size_t place = number % MOST_ANSWERED;
+    bool again = to->answered[place].number == number && now - to->answered[place].at < to->round_trip + 10;
+    if (again || to->credit < MOST_DATAGRAM || ++to->resent_now > MOST_RESENT) return false;
+    to->answered[place].number = number;
+    to->answered[place].at = now;
+    return true;
+}
+
 static void resend(peer *it, outgoing *to, cpay_history *store, uint16_t number) {
     size_t size = 0;
     cpay_resent resent = CPAY_RESENT_NOT_KEPT;
     uint8_t *out = network_room();
     to->requested++;
-    if (++to->resent_now > MOST_RESENT) return;
+    if (!may_resend(to, number)) {
+        to->refused++;
+        return;
+    }
     const uint8_t *padding = filled_under(to, number); /* the packet that was left out is not to come in its place */
     if (padding) {
         memcpy(out, padding, HEADER + 1);
@@ -177,7 +201,9 @@ static void resend(peer *it, outgoing *to, cpay_history *store, uint16_t number)
     }
     if (cpay_forwarder_resend(&to->forwarder, store, number, out, MOST_DATAGRAM, &size, &resent)) return;
     to->not_kept += resent == CPAY_RESENT_NOT_KEPT;
-    if (resent == CPAY_RESENT_WRITTEN) srtp_send(it, out, size, false);
+    if (resent != CPAY_RESENT_WRITTEN) return;
+    to->credit -= size;
+    srtp_send(it, out, size, false);
 }
 
 /* What the viewer reports: losses, and the round trip by the sender report that it names (RFC 3550, section 6.4.1). */
@@ -268,10 +294,10 @@ void viewer_stats(peer *it, FILE *to) {
         stats_stream(to, kind, &it->media[kind], layered ? from->layers[of->track - VIDEO] : "");
         fprintf(to,
                 COUNT("packets") COUNT("bytes") COUNT("resent") COUNT("leftOut") COUNT("filled") COUNT("switches")
-                    COUNT("requested") COUNT("notKept") COUNT("keyframesRequested")
+                    COUNT("requested") COUNT("refused") COUNT("notKept") COUNT("keyframesRequested")
                         COUNT("roundTrip") "\"temporal\":%d,\"lost\":%d}",
                 counts.packets, counts.octets, counts.resent, counts.left_out, counts.filled, counts.switches, of->requested,
-                of->not_kept, of->keyframes_wanted, of->round_trip, of->temporal, of->reported.lost);
+                of->refused, of->not_kept, of->keyframes_wanted, of->round_trip, of->temporal, of->reported.lost);
     }
     fputs("]", to);
 }
