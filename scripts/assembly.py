@@ -204,7 +204,7 @@ def main():
         if subprocess.run([f"{ROOT}/scripts/kit.py", "free"], check=False).returncode != 0:
             stop("another rt works in this copy")
         for name in crates()[TOP]:
-            ran(["rt", "lib"], f"{ROOT}/crates/{name}", f"{name} is not proved")
+            ran([f"{ROOT}/scripts/kit.py", "rt", "lib"], f"{ROOT}/crates/{name}", f"{name} is not proved")
     if sys.argv[1:] == ["check"]:
         print(f"assembly: {len(ARCHITECTURES)} files, {check(total, folder, version)}")
         return

@@ -45,7 +45,7 @@ step() {
 build_proved() {
     kit=$(dirname "$(rt doc)")
     "$root/scripts/kit.py" free || fail "another rt works in this copy"
-    (cd "$root/crates/codec_payload_c" && rt lib) >"$work/lib.log" 2>&1 || {
+    (cd "$root/crates/codec_payload_c" && "$root/scripts/kit.py" rt lib) >"$work/lib.log" 2>&1 || {
         cat "$work/lib.log" >&2
         fail "the library is not proved"
     }

@@ -3,9 +3,11 @@
 
   scripts/kit.py free [MINUTES]   waits until no other rt works here, and says what it waits for; by default at most 30 minutes
   scripts/kit.py keep             after an `rt ci` that passed: marks what it built, so that rt does not prove it once more
+  scripts/kit.py tests CRATE      fails unless `keep` marked the program of the tests of this crate, and its sources are the same
   scripts/kit.py layout           fails if a file of the crates is not in the layout of `rt fmt`
   scripts/kit.py over LIB,.. CRATE [FUNCTION ...]
                                   checks functions of a crate over the sources of these libraries, which need no proof yet
+  scripts/kit.py rt WORD ...      does what `rt WORD ...` does, and reads the sources of each crate once
 
 free: two rt in one copy wait for each other, without a limit, and in a script the message of rt is in a log. So scripts that call
 rt call this first. It changes nothing. The status is 0 once the copy is free, and 1 if it gave up.
@@ -20,10 +22,16 @@ layout: changes nothing, proves nothing, and takes half a minute. The last line 
 over: while a change is under way in a library, the crates above it can be tried at once. The other libraries below the crate must be
 built (crates/*/out/rlib). Functions are paths or parts of them; without any, the whole crate is checked, and the libraries too, which
 takes long. It gives no verdict: a library whose contract nobody meets passes as well. The status is that of `rattle check`.
+
+rt: a kit may compute the mark of a crate once for each path to it in crates.txt. From codec_payload_c there are 19,000 paths, so that
+`rt lib` takes 15 minutes there with nothing to build (kit 13b, 2026-11-30). This command computes each mark once. Edit nothing while
+it runs. If rt cannot be loaded, it runs as it is. The status is that of rt.
 """
 import fcntl
 import filecmp
 import glob
+import importlib.machinery
+import importlib.util
 import os
 import shutil
 import subprocess
@@ -88,7 +96,43 @@ def toolchain():
         return None
     sys.path.insert(0, folder)
     sys.dont_write_bytecode = True
-    return __import__(MODULE)
+    return with_marks_once(__import__(MODULE))
+
+
+def with_marks_once(rtlib):
+    """The module, with the mark of each crate computed once, and the list of the crates below it."""
+
+    def once(method):
+        found = {}
+
+        def answer(crate):
+            if crate.folder not in found:
+                found[crate.folder] = method(crate)
+            return found[crate.folder]
+
+        return answer
+
+    below = once(rtlib.Crate.below)
+    rtlib.Crate.stamp = once(rtlib.Crate.stamp)
+    rtlib.Crate.below = lambda crate: list(below(crate))
+    return rtlib
+
+
+def run_rt(words):
+    """rt with these words."""
+    program = shutil.which("rt")
+    if program is None:
+        print("rt is not there", file=sys.stderr)
+        return 2
+    try:
+        sys.dont_write_bytecode = True
+        loader = importlib.machinery.SourceFileLoader("rt", os.path.realpath(program))
+        rt = importlib.util.module_from_spec(importlib.util.spec_from_loader("rt", loader))
+        loader.exec_module(rt)
+        with_marks_once(rt.rtlib)
+    except (AttributeError, OSError, SyntaxError, ValueError):
+        return subprocess.run([program, *words], check=False).returncode
+    return rt.main(words)
 
 
 def mark_of(crate, rtlib):
@@ -100,6 +144,23 @@ def mark_of(crate, rtlib):
     return (os.path.join(out, "rlib", "stamp"), crate.stamp()) if os.path.isdir(crate.rlib) else None
 
 
+def mark_of_tests(crate, rtlib):
+    """The place of the mark of the proved tests of a crate, and its text; None if they are not built."""
+    program = os.path.join(crate.folder, "out", f"{crate.name}_tests")
+    return (f"{program}.kept", crate.stamp() + rtlib.sum_of(program)) if os.path.isfile(program) else None
+
+
+def has_tests(name):
+    """0 if the program of the tests of a crate is the one that `keep` marked."""
+    rtlib = toolchain()
+    crate = next((it for it in rtlib.crates_below(ROOT) if it.name == name), None) if rtlib else None
+    mark = crate and mark_of_tests(crate, rtlib)
+    if not mark or not os.path.isfile(mark[0]):
+        return 1
+    with open(mark[0], encoding="utf-8") as file:
+        return 0 if file.read() == mark[1] else 1
+
+
 def keep_proved():
     """Writes the marks, or says why not."""
     try:
@@ -108,11 +169,12 @@ def keep_proved():
             print("nothing kept: rt will prove again what it needs")
             return
         os.chdir(ROOT)
-        marks = [mark for mark in (mark_of(crate, rtlib) for crate in rtlib.crates_below(ROOT)) if mark]
+        crates = rtlib.crates_below(ROOT)
+        marks = [mark for crate in crates for mark in (mark_of(crate, rtlib), mark_of_tests(crate, rtlib)) if mark]
         for path, text in marks:
             with open(path, "w", encoding="utf-8") as file:
                 file.write(text)
-        print(f"{len(marks)} libraries and programs kept")
+        print(f"{len(marks)} libraries, programs and tests kept")
     except (AttributeError, OSError, subprocess.CalledProcessError) as fault:
         print(f"nothing kept ({fault}): rt will prove again what it needs")
 
@@ -179,11 +241,15 @@ def main(words):
         return wait_until_free(*map(float, words[1:]))
     if words == ["keep"]:
         return keep_proved()
+    if words[:1] == ["tests"] and len(words) == 2:
+        return has_tests(words[1])
     if words == ["layout"]:
         return check_layout()
     if words[:1] == ["over"] and len(words) >= 3:
         return check_over(words[1].split(","), words[2], words[3:])
-    print("usage: scripts/kit.py free [MINUTES] | keep | layout | over LIB,.. CRATE [FUNCTION ...]", file=sys.stderr)
+    if words[:1] == ["rt"] and len(words) >= 2:
+        return run_rt(words[1:])
+    print("usage: scripts/kit.py free [MINUTES] | keep | tests CRATE | layout | over LIB,.. CRATE [FUNCTION ...] | rt WORD ...", file=sys.stderr)
     return 2
 
 

@@ -303,7 +303,7 @@ class Scratch:
         for file, text in texts.items():
             with open(f"{self.copy}/{file}", "w", encoding="utf-8") as it:
                 it.write(text)
-        words = ["rt", "check", *(word for it in sorted(functions) for word in ("--only", it))]
+        words = [f"{ROOT}/scripts/kit.py", "rt", "check", *(word for it in sorted(functions) for word in ("--only", it))]
         try:
             return run(words + (["--jobs", str(self.jobs)] if self.jobs else []), self.copy)
         finally:
@@ -414,7 +414,7 @@ def edits_of(crate):
 
 def proved_functions(crate):
     """The crate's functions, by their paths below it. Ends the run of this crate if one is not proved."""
-    status, said = run(["rt", "check"], f"{ROOT}/crates/{crate}")
+    status, said = run([f"{ROOT}/scripts/kit.py", "rt", "check"], f"{ROOT}/crates/{crate}")
     if status:
         sys.exit(f"{crate} is not proved:\n{said[-2000:]}")
     return re.findall(rf"^fn {crate}::(\S+): proved", said, re.M)

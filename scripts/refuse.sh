@@ -32,7 +32,7 @@ library=$root/c/out/libcodec_payload.a
 programs=$work/vectors
 if command -v rt >/dev/null; then
     "$root/scripts/kit.py" free || exit 1
-    (cd "$stored" && rt run <stdin) >"$work/run" 2>&1 || {
+    (cd "$stored" && "$root/scripts/kit.py" rt run <stdin) >"$work/run" 2>&1 || {
         cat "$work/run"
         exit 1
     }
@@ -330,7 +330,7 @@ refuse_test() {
 
 if command -v rt >/dev/null; then
     tests=$root/crates/payload_run_tests
-    (cd "$tests" && rt test) >"$work/run" 2>&1 || {
+    "$root/scripts/kit.py" tests payload_run_tests || (cd "$tests" && "$root/scripts/kit.py" rt test) >"$work/run" 2>&1 || {
         cat "$work/run"
         exit 1
     }

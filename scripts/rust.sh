@@ -3,6 +3,8 @@
 #
 #   scripts/rust.sh          all that is below
 #   scripts/rust.sh quick    the same without the package, the plants and the fuzzing
+#   scripts/rust.sh beside   all but the step that measures time, so other programs may run beside it
+#   scripts/rust.sh times    that step alone
 #
 # - The generated files are what a fresh run of tools/eraser/erase.py writes.
 # - rustfmt, clippy and rustdoc have nothing to say, and all tests pass, with and without the feature `fallible`; the crate builds
@@ -127,7 +129,17 @@ fuzzing() {
     echo "; $(tail -n 1 "$work/log")"
 }
 
+# Measures time, so nothing runs beside it.
+timed() {
+    step cargo run --quiet --release --manifest-path "$root/tools/speed/Cargo.toml" --bin orders -- spike
+}
+
 how=${1:-}
+if [ "$how" = times ]; then
+    timed
+    echo "rust: $(cat "$work/log")"
+    exit 0
+fi
 # The parts read what the eraser writes, so the eraser comes before them. In scripts/try.sh it then finds nothing to write.
 step "$root/tools/eraser/erase.py" --check
 if [ "$how" = quick ]; then
@@ -135,6 +147,6 @@ if [ "$how" = quick ]; then
 else
     side_by_side crate plants mutants fuzzing lines models extras speed
 fi
-# This step measures time, so no part runs beside it.
-step cargo run --quiet --release --manifest-path "$root/tools/speed/Cargo.toml" --bin orders -- spike
-echo "rust: $(said crate); $(cat "$work/log"); $(said lines)$([ "$how" = quick ] || said fuzzing)"
+: >"$work/log"
+[ "$how" = beside ] || timed
+echo "rust: $(said crate); $(sed 's/$/; /' "$work/log")$(said lines)$([ "$how" = quick ] || said fuzzing)"

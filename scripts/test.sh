@@ -103,30 +103,26 @@ runs scripts/theorem.py --check
 runs scripts/statement_plants.py
 runs scripts/memory_lint.py
 runs c/check_header.py
-runs scripts/rust.sh
-runs scripts/toy_codec.sh
 # Old lines of mutants/RESULTS.txt are no fault, but CI says how many there are.
 echo "mutants whose counts are old or missing: $(scripts/mutants.py --missing | tail -n 1)"
-early_passed=$passed
-early_failed=$failed
+# From nothing `rt ci` takes an hour and a half, and its last proofs leave processors idle. So it runs in the background, over what is
+# kept of earlier runs on this machine (scripts/kept_ci.py), and beside it the scripts that read nothing which it writes and
+# measure no time.
+proofs=
 if [ "${1:-}" != --no-proofs ]; then
     scripts/kit.py free || exit 1
-    rt ci 2>&1 | tee "$work/proofs"
-    counts=$(tail -n 1 "$work/proofs")
-    set -- $(printf '%s\n' "$counts" | sed -n 's/^\([0-9]*\) passed, \([0-9]*\) failed.*/\1 \2/p') '' ''
-    [ "${1:-0}" -gt 0 ] || set -- 0 1
-    [ "$2" -ne 0 ] || scripts/kit.py keep
-    passed=$((early_passed + $1))
-    failed=$((early_failed + $2))
+    began_proofs=$(date +%s)
+    setsid scripts/kept_ci.py >"$work/proofs" 2>&1 &
+    proofs=$!
+    trap 'kill -- -$proofs 2>/dev/null; rm -rf "$work"' EXIT
+    trap 'exit 130' INT TERM
 fi
-runs tests/vectors/process.py --proved
+runs scripts/rust.sh beside
 runs tests/vectors/feedback.py --check
-runs scripts/refuse.sh
-runs tools/measure/allocations.sh
-runs scripts/bindings.sh
-runs scripts/python.sh
 runs scripts/targets.sh
-runs scripts/documents.py
+runs scripts/toy_codec.sh
+runs tools/measure/allocations.sh
+runs scripts/python.sh
 runs scripts/examples.py
 runs tools/measure/forwarding.py
 runs scripts/hostile.py
@@ -137,15 +133,33 @@ if command -v ffmpeg >/dev/null; then
 else
     echo "skipped tests/media/media_peers.py: there is no ffmpeg"
 fi
-if command -v chromium >/dev/null; then
-    runs tools/chromium/chromium_peer.py
-else
-    echo "skipped tools/chromium/chromium_peer.py: there is no chromium"
+if [ -n "$proofs" ]; then
+    wait "$proofs"
+    trap 'rm -rf "$work"' EXIT
+    cat "$work/proofs"
+    echo "rt ci took at most $(($(date +%s) - began_proofs)) s"
+    counts=$(tail -n 1 "$work/proofs")
+    set -- $(printf '%s\n' "$counts" | sed -n 's/^\([0-9]*\) passed, \([0-9]*\) failed.*/\1 \2/p') '' ''
+    [ "${1:-0}" -gt 0 ] || set -- 0 1
+    [ "$2" -ne 0 ] || scripts/kit.py keep
+    passed=$((passed + $1))
+    failed=$((failed + $2))
 fi
+# These run what rt proved and built, or depend on time.
+runs tests/vectors/process.py --proved
+runs scripts/refuse.sh
+runs scripts/bindings.sh
+runs scripts/documents.py
+runs scripts/rust.sh times
 if pkg-config --exists libpcap libavformat libavcodec libavutil && command -v ffmpeg >/dev/null; then
     runs tools/rtp_record/test.sh
 else
     echo "skipped tools/rtp_record/test.sh: tools/rtp_record/install.sh installs what it needs"
+fi
+if command -v chromium >/dev/null; then
+    runs tools/chromium/chromium_peer.py
+else
+    echo "skipped tools/chromium/chromium_peer.py: there is no chromium"
 fi
 if pkg-config --exists openssl libsrtp2 libmicrohttpd libavformat libavcodec libavutil; then
     runs make -s -C tools/live_server all
