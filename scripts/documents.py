@@ -55,7 +55,7 @@ PICTURE_BYTES = 80_000
 # The pages that say what is proved, and name only what public statements have.
 STATED = [f"docs/proof/{it}.md" for it in ("PROMISES", "FORWARDED", "SESSIONS", "CONTRACTS")]
 # Pictures of a screen, which a test takes (tools/live_server/test.py).
-SHOTS = ["live_server.webp"]
+SHOTS = ["live_server.webp", "live_server_phone.webp"]
 FENCE = re.compile(r"^( *)```(.*)$")
 # Commands of the documents that this script runs, in the root of the repository: they need nothing built, and are quick.
 RUN_HERE = ["scripts/mutants.py --stale", "c/check_header.py", "tools/measure/count_lines.sh", "scripts/documents.py"]

@@ -476,7 +476,7 @@ def test_phone():
 
 def test_picture(path=None):
     """The page publishes and watches over a bad network, and draws the last minute of each count. Its picture is that of the documents:
-    `--picture ../../docs/pictures/live_server.webp` writes it there."""
+    `--picture ../../docs/pictures/live_server.webp` writes it there, and beside it `live_server_phone.webp`: on a phone, dark."""
     with Server() as it:
         page = it.page("publish=pattern&layers&watch")
         wait_for("picture", lambda: page.frames() > 60)
@@ -487,6 +487,9 @@ def test_picture(path=None):
         path = path or f"{it.folder.name}/page.webp"
         page.shot(path)
         size = os.path.getsize(path)
+        page.browser.call("Emulation.setEmulatedMedia", page.place[1], features=[{"name": "prefers-color-scheme", "value": "dark"}])
+        page.browser.call("Emulation.setDeviceMetricsOverride", page.place[1], width=390, height=844, deviceScaleFactor=1, mobile=True)
+        page.shot(path.replace(".webp", "_phone.webp"))
         named = page.evaluate("[...document.querySelectorAll('.card')].filter((each) => each.title && /now .*, at most /.test(each.querySelector('canvas').ariaLabel)"
                               " && Number(each.querySelector('small').textContent) > 0).length")
     require(drawn == plots >= 20, f"{drawn} of {plots} plots have a line")
