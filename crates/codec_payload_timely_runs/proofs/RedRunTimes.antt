@@ -58,7 +58,7 @@ use Rattle.codec_payload_datagram_runs.proofs.SendingLemmas.{SendsRun, running, 
 use Rattle.codec_payload_datagram_runs.proofs.TimelyLemmas.{StayTimely, stay_timely}
 use Rattle.codec_payload_receiver.proofs.BlockTimeLemmas.{new_has_no_block}
 use Rattle.codec_payload_receiver.specs.RedOnce.{HasNoBlock}
-use Rattle.codec_payload_datagram_runs.specs.RedHistoryReleases.{AreHeardInRed}
+use Rattle.codec_payload_datagram_runs.specs.RedHistoryReleases.{AreHeardInRed, red_plain_steps_of}
 use Rattle.codec_payload_datagram_runs.specs.RedLogs.{IsBroughtBy, KeepsRedPromises, PushesAll, RedWireLog, StaysInTurn}
 use Rattle.codec_payload_datagram_runs.specs.RedReleases.{AllComeInRed, IsInRedWithinWindows, IsRedDelivery, ReleasesUnitsInRed, entries_in, is_ssrc_of}
 use Rattle.codec_payload_datagram_runs.specs.RedRuns.{RedWire, WritesAll, begins_in_red}
@@ -67,9 +67,11 @@ use Rattle.codec_payload_datagram_runs.specs.WireRuns.{begins}
 use Rattle.codec_payload_datagram_runs.specs.declared.run.DatagramStep.{DatagramStep}
 use Rattle.codec_payload_datagram_runs.specs.declared.run.DatagramStep.TheVariants as steps
 use Rattle.codec_payload_datagram_runs.specs.declared.run.SentSample.{SentSample}
+use Rattle.codec_payload_datagram_runs.proofs.RedRepeatLemmas as repeats
+use Rattle.codec_payload_datagram_runs.specs.RedHistoryRuns.{begins_in_red_with}
 use Rattle.codec_payload_datagram_runs.proofs.RedReleaseLemmas.{UsesRed, stream_of_red, uses_red}
 use Rattle.codec_payload_timely_runs.proofs.TimedTurns.{Answered, due_by_deliveries, none_overdue, red_answered, timed_of, units_come}
-use Rattle.codec_payload_timely_runs.specs.RedTimes.{KeepsRedTimes, TimesInRed}
+use Rattle.codec_payload_timely_runs.specs.RedTimes.{KeepsRedTimes, TimesInRed, TimesInRedWithHistory}
 use Rattle.codec_payload_timely_runs.specs.TimelyRuns.{From, pop_times}
 
 -- the numbers of datagrams that were sent
@@ -453,3 +455,10 @@ module _ (again : Option RetransmissionStream) (samples : List Sample) (all_step
 pub times_in_red : TimesInRed
 times_in_red samples all_steps sender writer receiver t run within in_turn =
     keeps_times None samples all_steps sender writer receiver t (red_proceeds None samples all_steps (begins_in_red sender writer receiver) t run) tt within in_turn
+
+-- Runs in RED with retransmissions
+
+pub times_in_red_with_history : TimesInRedWithHistory
+times_in_red_with_history samples all_steps sender writer history receiver t run answers within in_turn =
+    keeps_times history.stream samples (red_plain_steps_of samples all_steps (begins_in_red_with sender writer history receiver) t) sender writer receiver t.red
+    (repeats.course samples all_steps sender writer history receiver t run answers.settings answers.new) answers.heard within in_turn

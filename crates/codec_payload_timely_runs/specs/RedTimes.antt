@@ -11,10 +11,14 @@ use Rattle.codec_payload_buffer_runs.specs.SentStream.{SentUnit}
 use Rattle.codec_payload_receiver.specs.Sessions.{Session}
 use Rattle.codec_payload_sending.specs.Senders.{Sending}
 use Rattle.codec_payload_sending_red.specs.Writers.{Writer}
+use Rattle.codec_payload_sending_history.specs.Packets.{Past}
+use Rattle.codec_payload_datagram_runs.specs.RedHistoryReleases.{AnswersInRed, red_plain_steps_of}
+use Rattle.codec_payload_datagram_runs.specs.RedHistoryRuns.{RedHistoryRuns, RedResending, begins_in_red_with}
 use Rattle.codec_payload_datagram_runs.specs.RedLogs.{KeepsRedPromises, OfEachRedLog, StaysInTurn}
 use Rattle.codec_payload_datagram_runs.specs.RedReleases.{Carries, IsInRedWithinWindows, IsKnownInRed}
 use Rattle.codec_payload_datagram_runs.specs.RedRuns.{RedRuns, RedWire, begins_in_red}
 use Rattle.codec_payload_datagram_runs.specs.Releases.{delivered, received_steps}
+use Rattle.codec_payload_datagram_runs.specs.declared.history_run.HistoryStep.{HistoryStep}
 use Rattle.codec_payload_datagram_runs.specs.declared.run.DatagramStep.{DatagramStep}
 use Rattle.codec_payload_datagram_runs.specs.declared.run.DatagramStep.TheVariants as steps
 use Rattle.codec_payload_timely_runs.specs.TimelyRuns.{AllComeInTime, ComesBy, LeavesBy, NoneIsOverdue, PopsInTimeFrom0, pop_times}
@@ -66,3 +70,15 @@ abbrev pub TimesInRed : Type 0
 TimesInRed =
     (samples : List Sample) (all_steps : List DatagramStep) (sender : Sending) (writer : Writer) (receiver : Session) (t : RedWire)
     → RedRuns samples all_steps (begins_in_red sender writer receiver) t → KeepsTimesInRed samples all_steps (begins_in_red sender writer receiver) t
+
+-- The same of a run in RED with retransmissions: each delivered retransmission is a delivery of the datagram that it repeats
+abbrev pub KeepsTimesInRedWithHistory : List Sample → List HistoryStep → RedResending → RedResending → Type 0
+KeepsTimesInRedWithHistory samples all_steps s t =
+    AnswersInRed s.history s.red.wire.session → KeepsTimesInRed samples (red_plain_steps_of samples all_steps s t) s.red t.red
+
+-- for every run in RED with a history
+abbrev pub TimesInRedWithHistory : Type 0
+TimesInRedWithHistory =
+    (samples : List Sample) (all_steps : List HistoryStep) (sender : Sending) (writer : Writer) (history : Past) (receiver : Session) (t : RedResending)
+    → RedHistoryRuns samples all_steps (begins_in_red_with sender writer history receiver) t
+    → KeepsTimesInRedWithHistory samples all_steps (begins_in_red_with sender writer history receiver) t

@@ -1,6 +1,6 @@
 //! Theorems on the times at which units come. These functions exist for their proofs and do nothing.
 
-ghost use Rattle.codec_payload_timely_runs.specs.RedTimes.{TimesInRed};
+ghost use Rattle.codec_payload_timely_runs.specs.RedTimes.{TimesInRed, TimesInRedWithHistory};
 ghost use Rattle.codec_payload_timely_runs.specs.TimelyRunExample.{TimesCanBeMet};
 ghost use Rattle.codec_payload_timely_runs.specs.TimelyRuns.{TimesOverDatagrams, TimesWithHistory};
 
@@ -23,4 +23,9 @@ pub fn times_can_be_met()
 /// The same holds for runs in RED.
 pub fn units_come_in_time_in_red()
     ensures { TimesInRed }
+{}
+
+/// The same holds for runs in RED with retransmissions.
+pub fn units_come_in_time_in_red_with_history()
+    ensures { TimesInRedWithHistory }
 {}
