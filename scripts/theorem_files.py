@@ -23,7 +23,7 @@ from collections import namedtuple
 # What a theorem file says in front: `says`, `premises`, `not_said`, `reading`.
 Words = namedtuple('Words', 'says premises not_said reading')
 BUFFER, DATAGRAMS, FORWARD = 'codec_payload_buffer_runs', 'codec_payload_datagram_runs', 'codec_payload_forward_runs'
-SESSION, SERVER = 'codec_payload_session_runs', 'codec_payload_server_runs'
+SESSION, SERVER, TIMELY = 'codec_payload_session_runs', 'codec_payload_server_runs', 'codec_payload_timely_runs'
 
 RECEIVES = 'codec_payload_receiver.Sessions.ReceivesBytes'
 POPS = 'codec_payload_receiver.Pops.PopsGated'
@@ -150,6 +150,22 @@ FILES = {
             'values of header extensions.'),
         'parts': [('the premise', ['IsWithinWindows']), ('the log', ['WireLog']), ('what is promised of each log', ['AreStretches', 'AllFollowAsSaid', 'AllInTime', 'PopsAreBrought']),
                   ('the values of header extensions', ['HaveValuesOfSamples', 'HasValuesOf', 'values_read', 'elements_for'])],
+    },
+    'INTIME': {
+        'statements': [(TIMELY, 'TimelyRuns', 'TimesOverDatagrams')],
+        'after': ['DATAGRAMS', 'SAFETY', 'COMPLETENESS', 'LOSS'],
+        'words': Words(
+            'A run as in DATAGRAMS.txt, whose receiver has a `max_wait`. A frame is due `max_wait` after its packet with the highest number arrived. `none_overdue`: if a pop answers None and '
+            'leaves a unit that is held whole, a complete frame at or before the unit was not due. `in_time`: let pops come until None after each delivery and at each deadline. Take a unit and a '
+            'time. By that time all packets of the unit came before a pop, while the cutoff was below them (`ComesBy`), and each complete frame at or before the unit is due (`AllDueBy`). Then '
+            'a pop returns the unit whole by that time (`LeavesBy`), or skips it by then, or a packet of it was evicted, or the run ended before that time, with the unit held whole. `after_deliveries`: the same '
+            'if, in place of `AllDueBy`, each delivery of a packet up to the last one of the unit was made `max_wait` before that time or earlier.',
+            'Those of DATAGRAMS.txt. The limits of the receiver have a `max_wait` and stay as they are. For `in_time` also `PopsInTime`: times do not fall; after a delivery, and after a pop that '
+            'returned a unit, the next delivery or pop has the same time, and there is one; after a pop that answered None, the next one comes by the deadline, or at once if that has '
+            'passed, or the run ends. A run that meets this, with its log, is proved (`times_can_be_met`).',
+            'Anything without `max_wait`, or if `max_wait` changes during the run. When a unit is skipped.',
+            'DATAGRAMS.txt first; what it explains is only named here. Part 1 is the theorem, part 2 which pops are in time, part 3 the bound.'),
+        'parts': [('pops in time', ['PopsInTimeFrom0']), ('the bound', ['ComesBy', 'AllDueBy'])],
     },
     'FORWARDED': {
         'statements': [(FORWARD, 'ForwardReleases', 'ForwardsPackets'), (FORWARD, 'ForwardReleases', 'ReleasesForwarded'), (FORWARD, 'ForwardReleases', 'KeepsPromisesForwarded')],
