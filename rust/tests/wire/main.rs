@@ -4,6 +4,7 @@ mod forwarded;
 mod forwarded_again;
 mod forwarded_ids;
 mod forwarded_left_out;
+mod in_time;
 mod losses;
 mod own_codec;
 mod red;

@@ -6,6 +6,7 @@ use crate::Fail;
 use crate::forwarded_again::{link_of_opus, opus_samples};
 use crate::served_again::{OPUS, OPUS_AGAIN, at, session_of_opus};
 use crate::sides::{receiver_settings, sender_settings};
+use codec_payload::buffer::Depacketized;
 use codec_payload::codec::{CodecDepacketizer, CodecPacketizer, NoBox};
 use codec_payload::forward::{ForwardSettings, Forwarded, Forwarder};
 use codec_payload::history::{History, HistorySettings, Resent, RetransmissionStream};
@@ -174,6 +175,43 @@ fn premises_can_be_met_by_a_frame_with_a_value() -> Result<(), Fail> {
     let read = RtpPacket::parse(&run.datagrams[0])?;
     let values = ids.values(&read.header.extension);
     assert_eq!(values.video_orientation, Some(1));
+    Ok(())
+}
+
+/// The second datagram is lost, and the third frame waits for it.
+#[test]
+fn times_can_be_met() -> Result<(), Fail> {
+    let steps = [
+        send(0),
+        deliver(0, 25),
+        pop(25),
+        send(1),
+        send(2),
+        deliver(2, 65),
+        pop(65),
+        pop(65),
+        pop(165),
+        pop(165),
+    ];
+    let mut of_sender = sender(Codec::Opus, |_| {})?;
+    let mut of_receiver = receiver(Codec::Opus, |_| {})?;
+    let run = run_datagrams(&mut of_sender, &mut of_receiver, &opus_samples()?, &steps)?;
+    sent_one_each(&run, 3);
+    let mut found = Vec::new();
+    for answer in run.pops {
+        found.push(answer.transpose().map_err(|_| "a fault")?);
+    }
+    let numbers = |place: usize| {
+        let unit: &Option<Depacketized> = &found[place];
+        unit.as_ref()
+            .map(|it| (it.bytes.clone(), it.meta()[0].seq_no.0, it.contiguous))
+    };
+    assert_eq!(numbers(0), None);
+    assert_eq!(numbers(1), Some((FRAMES[0].to_vec(), 131_071, true)));
+    assert_eq!(numbers(2), None);
+    assert_eq!(numbers(3), Some((FRAMES[2].to_vec(), 131_073, false)));
+    assert_eq!(numbers(4), None);
+    assert_eq!(found.len(), 5);
     Ok(())
 }
 

@@ -1,0 +1,6 @@
+pub mod FirstFrames
+pub mod WaitLemmas
+pub mod TimedTurns
+pub mod RunTimes
+pub mod TimelyRunExamples
+pub mod RedRunTimes

@@ -1,0 +1,3 @@
+pub mod TimelyRuns
+pub mod TimelyRunExample
+pub mod RedTimes

@@ -1,0 +1,4 @@
+//! When the units of a run over datagrams come, if its receiver is popped in time.
+#![tactic(auto)]
+
+pub mod theorems;
