@@ -22,7 +22,7 @@
 //! | [`descriptor`] | the dependency descriptor: which frames a frame of video refers to |
 //! | [`waiting`] | a limit of waiting that follows how late missing packets arrive |
 //! | [`freezes`] | how often and how long a picture stood still, by the rule of the W3C |
-//! | [`bandwidth`] | when packets leave for a viewer, and how much may be retransmitted |
+//! | [`bandwidth`] | when packets leave for a viewer, how much may be retransmitted, and which layers it gets |
 //! | [`layers`] | whether a keyframe begins in a payload, and its temporal layer |
 //! | [`edges`] | where pictures of video begin and end, and the numbers between them, which carry no media |
 //! | [`media`] | what frames say: keyframe, size, duration; OBUs, superframes, `av1C`, the Opus header |
@@ -247,12 +247,12 @@ pub mod layers {
     pub use crate::layers::*;
 }
 
-/// When packets leave for a viewer, by a rate, and how much may be retransmitted.
+/// When packets leave for a viewer, by a rate, how much may be retransmitted, and which layers it gets.
 pub mod bandwidth {
     #[doc(inline)]
     pub use crate::bandwidth::{
-        PacedKind, PacedPacket, Pacer, PacerError, PacerSettings, ResendLimit, ResendRefused,
-        ResendSettings,
+        LayerChoice, LayerChooser, LayerSettings, PacedKind, PacedPacket, Pacer, PacerError,
+        PacerSettings, ResendLimit, ResendRefused, ResendSettings, choose, trial_rate,
     };
 
     #[doc(hidden)]

@@ -4,8 +4,8 @@ mod random;
 
 use codec_payload::Ticks;
 use codec_payload::bandwidth::{
-    PacedKind, PacedPacket, Pacer, PacerError, PacerSettings, ResendLimit, ResendRefused,
-    ResendSettings,
+    LayerChoice, LayerChooser, LayerSettings, PacedKind, PacedPacket, Pacer, PacerError,
+    PacerSettings, ResendLimit, ResendRefused, ResendSettings, choose, trial_rate,
 };
 use random::Dice;
 use std::collections::VecDeque;
@@ -252,4 +252,64 @@ fn as_many_as_are_remembered() {
         ResendRefused::Share.to_string(),
         "share of retransmissions is used up"
     );
+}
+
+/// Whether a path of this rate carries a choice, by the rule in docs/use/BANDWIDTH.md.
+fn is_carried(current: usize, carries: u64, index: usize, choice: &LayerChoice) -> bool {
+    let margin = u128::from(choice.rate) * 105 / 100;
+    (index <= current && choice.rate <= carries)
+        || (margin <= u128::from(carries) && choice.begin <= carries)
+}
+
+#[test]
+fn choices_that_fit() {
+    let mut dice = Dice(3);
+    for _ in 0..20_000 {
+        let choices: Vec<LayerChoice> = (0..dice.below(6))
+            .map(|_| LayerChoice {
+                rate: dice.below(1_000),
+                begin: dice.below(1_200),
+            })
+            .collect();
+        let (current, carries) = (dice.below(7) as usize, dice.below(1_400));
+        let carried = |it: &usize| is_carried(current, carries, *it, &choices[*it]);
+        let highest = (0..choices.len()).rev().find(carried).unwrap_or(0);
+        assert_eq!(choose(current, carries, &choices), highest);
+        assert_eq!(choose(highest, carries, &choices), highest);
+        assert!(choose(current, carries + dice.below(100), &choices) >= highest);
+    }
+}
+
+#[test]
+fn the_choice_rises_after_a_pause() {
+    let ladder = [100_000, 300_000, 900_000].map(|rate| LayerChoice { rate, begin: 0 });
+    let mut chooser = LayerChooser::new(LayerSettings { pause: 1_000 }, 9);
+    // An index beyond the list is one of all choices.
+    assert_eq!(chooser.choose(Ticks(10), 400_000, &ladder), 1);
+    assert_eq!(chooser.wanted(1, &ladder), 972_000);
+    assert_eq!(chooser.choose(Ticks(500), 1_000_000, &ladder), 1);
+    assert_eq!(chooser.choose(Ticks(600), 0, &ladder), 0);
+    // The second fall makes the pause longer.
+    assert_eq!(chooser.choose(Ticks(1_500), 1_000_000, &ladder), 0);
+    assert_eq!(chooser.wanted(1, &ladder), 324_000);
+    assert_eq!(chooser.wanted(5, &ladder), 972_000);
+    assert_eq!(chooser.choose(Ticks(1_600), 944_999, &ladder), 1);
+    assert_eq!(chooser.choose(Ticks(1_600), 945_000, &ladder), 2);
+    assert_eq!(chooser.wanted(1, &ladder), 0);
+    assert_eq!(chooser.choose(Ticks(1_700), 900_000, &ladder), 2);
+    assert_eq!(chooser.choose(Ticks(1_700), 900_000, &[]), 0);
+    assert_eq!(chooser.wanted(1, &[]), 0);
+    let steep = LayerChoice {
+        rate: 100,
+        begin: 1_050,
+    };
+    assert_eq!(trial_rate(&steep), 1_080);
+    assert_eq!(
+        trial_rate(&LayerChoice {
+            rate: u64::MAX,
+            begin: 0
+        }),
+        u64::MAX
+    );
+    assert_eq!(LayerSettings::live(), LayerSettings { pause: 2_000_000 });
 }
