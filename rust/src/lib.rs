@@ -117,6 +117,8 @@ pub mod amr_wb;
 #[doc(hidden)]
 pub mod av1;
 #[doc(hidden)]
+pub mod bandwidth;
+#[doc(hidden)]
 pub mod bits;
 #[doc(hidden)]
 pub mod buffer;

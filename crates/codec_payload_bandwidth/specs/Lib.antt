@@ -1,0 +1,9 @@
+pub use Rattle.codec_payload_bandwidth_estimate.specs.Arrivals
+pub use Rattle.codec_payload_bandwidth_estimate.specs.Delays
+pub use Rattle.codec_payload_bandwidth_estimate.specs.Losses
+pub use Rattle.codec_payload_bandwidth_estimate.specs.Rates
+pub use Rattle.codec_payload_bandwidth_layers.specs.Choices
+pub use Rattle.codec_payload_bandwidth_pacer.specs.Pacing
+pub use Rattle.codec_payload_bandwidth_pacer.specs.ResendRuns
+pub use Rattle.codec_payload_bandwidth_pacer.specs.Resending
+pub use Rattle.codec_payload_bandwidth_pacer.specs.Runs

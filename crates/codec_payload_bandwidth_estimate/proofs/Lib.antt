@@ -1,0 +1,4 @@
+mod ClockLemmas
+mod LinkLemmas
+mod RateLemmas
+mod ShiftLemmas

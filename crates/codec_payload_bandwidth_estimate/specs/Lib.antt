@@ -1,0 +1,4 @@
+pub mod Arrivals
+pub mod Delays
+pub mod Losses
+pub mod Rates

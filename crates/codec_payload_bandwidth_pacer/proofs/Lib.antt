@@ -1,0 +1,5 @@
+mod ApartLemmas
+mod BytesLemmas
+mod DueLemmas
+mod RunLemmas
+mod ShareLemmas

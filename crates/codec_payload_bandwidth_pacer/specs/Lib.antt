@@ -1,0 +1,4 @@
+pub mod Pacing
+pub mod ResendRuns
+pub mod Resending
+pub mod Runs

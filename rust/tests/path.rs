@@ -1,0 +1,185 @@
+//! Measurements of a path, beside plain models.
+
+mod random;
+
+use codec_payload::Ticks;
+use codec_payload::bandwidth::{Arrivals, Delays, Losses, PathRate, Trial};
+use random::Dice;
+
+/// What stands in the queue: the least delay of the last 32 packets that are among the latest four or were sent in the last 25 ms, above
+/// the least delay of this epoch of 10 s and the one before.
+#[test]
+fn what_stands() {
+    let mut dice = Dice(11);
+    for _ in 0..300 {
+        let mut delays = Delays::new();
+        let mut ahead = Delays::new();
+        let clock = dice.below(1 << 30) * 1_000_000;
+        let (mut sent, mut queue) = (dice.below(1 << 30), 0);
+        // Each packet: when it was sent, its delay.
+        let mut packets: Vec<(u64, i128)> = Vec::new();
+        let (mut epoch, mut current, mut before) = (0, None::<i128>, None::<i128>);
+        assert_eq!(delays.standing(), 0);
+        for _ in 0..400 {
+            let step = [2_000, 20_000, 200_000][dice.below(3) as usize];
+            sent += dice.below(step);
+            queue = (queue + dice.below(20_000)).saturating_sub(dice.below(20_000));
+            let arrived = sent + 20_000 + queue;
+            delays.note(sent, arrived);
+            ahead.note(sent, arrived + clock);
+            let delay = i128::from(arrived) - i128::from(sent);
+            if sent >= epoch + 10_000_000 {
+                (before, current, epoch) = (current, None, sent);
+            }
+            current = Some(current.map_or(delay, |it| it.min(delay)));
+            packets.push((sent, delay));
+            let base = before.into_iter().chain(current).min().unwrap();
+            let recent = packets.iter().rev().take(32).enumerate();
+            let counted = recent.filter(|(index, it)| *index < 4 || sent - it.0 <= 25_000);
+            let least = counted.map(|(_, it)| it.1).min().unwrap();
+            assert_eq!(delays.standing() as i128, least - base);
+            assert_eq!(ahead.standing(), delays.standing());
+            assert_eq!(delays.above(sent, arrived) as i128, delay - base);
+            assert_eq!(
+                ahead.above(sent, arrived + clock),
+                delays.above(sent, arrived)
+            );
+        }
+    }
+    // Clocks may be any.
+    let mut delays = Delays::new();
+    delays.note(u64::MAX, 0);
+    delays.note(0, u64::MAX);
+    delays.note(u64::MAX, u64::MAX);
+    assert_eq!(delays.above(u64::MAX, 5), 5);
+}
+
+#[test]
+fn a_full_link_gives_its_rate() {
+    let mut dice = Dice(12);
+    for _ in 0..2_000 {
+        // A byte takes this number of microseconds, so that all times are exact.
+        let byte = 1 + dice.below(40);
+        let mut arrivals = Arrivals::new();
+        let mut at = dice.below(1 << 40);
+        // A pause, and then packets one after another.
+        arrivals.note(at, 1_000, false);
+        at += 1_000_000;
+        arrivals.note(at, 1_000, false);
+        let first = at;
+        for _ in 0..100 {
+            let size = 1 + dice.below(1_500);
+            at += size * byte;
+            arrivals.note(at, size as u32, true);
+            let rate = arrivals.link_rate();
+            if let Some(rate) = rate {
+                assert_eq!(rate, 8_000_000 / u128::from(byte));
+            }
+            assert!(rate.is_some() || at - first < 50_000 + 1_500 * byte);
+        }
+    }
+}
+
+/// The rate beside a plain sum over the arrivals of 250 ms.
+#[test]
+fn the_rate_of_arrivals() {
+    let mut dice = Dice(13);
+    for _ in 0..200 {
+        let mut arrivals = Arrivals::new();
+        let mut all: Vec<(u64, u64, bool)> = Vec::new();
+        let mut at = 1_000_000;
+        for _ in 0..300 {
+            at += dice.below(9_000);
+            // Some arrive late, and count with the latest.
+            let late = dice.below(4) * dice.below(3) * 1_000;
+            let (size, waited) = (dice.below(1_500), dice.below(3) > 0);
+            arrivals.note(at.saturating_sub(late), size as u32, waited);
+            let time = all.last().map_or(0, |it| it.0).max(at - late);
+            all.push((time, size, waited));
+            let newest = time;
+            let window: Vec<_> = all
+                .iter()
+                .rev()
+                .take(256)
+                .take_while(|it| newest - it.0 <= 250_000)
+                .collect();
+            let rate_to = |last: usize| {
+                let span = newest - window[last].0;
+                let bytes: u64 = window[..last].iter().map(|it| it.1).sum();
+                (span >= 50_000).then(|| u128::from(bytes * 8_000_000 / span))
+            };
+            let rate = rate_to(window.len() - 1);
+            assert_eq!(arrivals.rate(), rate);
+            let busy = window
+                .iter()
+                .position(|it| !it.2)
+                .unwrap_or(window.len() - 1);
+            assert_eq!(arrivals.link_rate(), rate_to(busy).or(rate));
+        }
+    }
+}
+
+#[test]
+fn losses_of_the_path_are_usual() {
+    for percent in [0, 5, 10, 30, 60, 100] {
+        let mut losses = Losses::new();
+        let mut many = 0;
+        for period in 1..=100u64 {
+            for packet in 0..100 {
+                losses.note(packet < percent);
+                assert!(packet == 99 || !losses.judge(period * 500_000 - 1));
+            }
+            many += u32::from(losses.judge(period * 500_000));
+        }
+        // Below 15 percent none is too many; above, only until the average has come near.
+        assert_eq!(many > 0, percent > 15, "{percent} percent: {many}");
+        assert!(many <= 6, "{percent} percent: {many}");
+        assert!(
+            losses.usual().abs_diff(percent * 10) <= 1,
+            "{percent} percent: {}",
+            losses.usual()
+        );
+    }
+}
+
+#[test]
+fn the_rate_stays_within() {
+    let mut dice = Dice(14);
+    for _ in 0..3_000 {
+        let (least, most) = (dice.below(1 << 20), dice.below(1 << 24));
+        let mut rate = PathRate::new(dice.below(1 << 30), least, most);
+        let most = most.max(least);
+        for _ in 0..50 {
+            let before = rate.estimate();
+            let value = [0, u64::MAX, dice.below(1 << 25)][dice.below(3) as usize];
+            match dice.below(4) {
+                0 => rate.raise(value),
+                1 => {
+                    rate.fall(value);
+                    assert!(rate.estimate() <= before && rate.estimate() >= before / 4);
+                }
+                2 => {
+                    let to = dice.below(1 << 25);
+                    rate.settle(value, to);
+                    assert!(rate.estimate() >= before && rate.estimate() <= before.max(to));
+                }
+                _ => rate.halve(),
+            }
+            assert!((least..=most).contains(&rate.estimate()));
+        }
+    }
+    let trial = Trial {
+        begun: Ticks(1_000_000),
+        from: 300_000,
+        to: 500_000,
+    };
+    assert_eq!(trial.rate(Ticks(0)), 300_000);
+    assert_eq!(trial.rate(Ticks(1_250_000)), 400_000);
+    assert_eq!(trial.rate(Ticks(9_000_000)), 500_000);
+    let back = Trial {
+        begun: Ticks(0),
+        from: u64::MAX,
+        to: 0,
+    };
+    assert_eq!(back.rate(Ticks(u64::MAX)), u64::MAX);
+}
