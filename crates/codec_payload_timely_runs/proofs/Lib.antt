@@ -5,3 +5,4 @@ pub mod RunTimes
 pub mod TimelyRunExamples
 pub mod RedRunTimes
 pub mod OverdueLemmas
+pub mod AnswerLemmas
