@@ -12,8 +12,7 @@ FILES has for each file
 
 Rules for stops. A theorem says nothing if its premise cannot be met, or if its conclusion always holds. So
 
-1. a stop is in no premise, except a function of values, if a run that meets the premise is proved, and a clause of a public function,
-   which states the premise of each of its calls;
+1. a stop is in no premise, except a function of values, if a run that meets the premise is proved;
 2. a relation is a stop only if it is the contract of a public function, and the statement passes it on as it is; or if it is part
    of a log, while another clause says that each run has a log;
 3. never a stop: which units were sent, that a release is one of them, that a receiver was new, which calls it made, and with which
@@ -30,7 +29,6 @@ RECEIVES = 'codec_payload_receiver.Sessions.ReceivesBytes'
 POPS = 'codec_payload_receiver.Pops.PopsGated'
 ENDS = 'codec_payload_receiver.Sessions.Ends'
 NEW_RECEIVER = 'codec_payload_receiver.Sessions.session_by'
-DATAGRAM_RUNS = 'codec_payload_datagram_runs.WireRuns.Runs'
 RUNS = 'codec_payload_session_runs.SessionRuns.Runs'
 NEW_SESSION = 'codec_payload_session.Ports.new_session'
 NEW_DEPACKETIZER = 'codec_payload_codec.Depacketizers.depacketizer_state_for'
@@ -44,7 +42,6 @@ STOPS = {
     ENDS: 'the contract of `Receiver::finish`: no more datagrams come, so no pop waits.',
     NEW_RECEIVER: 'the contract of `Receiver::new`: the receiver with these settings before any datagram, or the setting that is out of range.',
     RUNS: 'the contracts of all calls of a session, one after another (docs/proof/SESSIONS.md).',
-    DATAGRAM_RUNS: 'the steps of a run of `run_datagrams`, one after another: the contracts of the sender and the receiver, call by call.',
     NEW_SESSION: 'the session that `Session::new` makes of these settings: no streams, nothing counted.',
     NEW_DEPACKETIZER: 'the first state of the depacketizer of a codec, or None for a codec without one.',
     READS: 'the RTP packet that these bytes are (RFC 3550, section 5.1), or the fault: the contract of `RtpPacket::parse`.',
@@ -155,16 +152,15 @@ FILES = {
                   ('the values of header extensions', ['HaveValuesOfSamples', 'HasValuesOf', 'values_read', 'elements_for'])],
     },
     'INTIME': {
-        'statements': [(TIMELY, 'TimelyRuns', 'TimesOverDatagrams')],
+        'statements': [(TIMELY, 'TimelyRuns', 'KeepsTimesWithinWindows', 'run_in_time')],
         'after': ['DATAGRAMS', 'SAFETY', 'COMPLETENESS', 'LOSS'],
-        'stops': {DATAGRAM_RUNS: 'it says which run this is. The clause `runs` of `run_datagrams` states it of each call that returned Ok, so it can be met.'},
         'words': Words(
             'A run as in DATAGRAMS.txt, whose receiver has a `max_wait`. A frame is due `max_wait` after its packet with the highest number arrived. `none_overdue`: if a pop answers None and '
             'leaves a unit that is held whole, a complete frame at or before the unit was not due. `in_time`: let pops come until None after each delivery and at each deadline. Take a unit and a '
             'time. By that time all packets of the unit came before a pop, while the cutoff was below them (`ComesBy`), and each complete frame at or before the unit is due (`AllDueBy`). Then '
             'a pop returns the unit whole by that time (`LeavesBy`), or skips it by then, or a packet of it was evicted, or the run ended before that time, with the unit held whole. `after_deliveries`: the same '
             'if, in place of `AllDueBy`, each delivery of a packet up to the last one of the unit was made `max_wait` before that time or earlier.',
-            'Those of DATAGRAMS.txt. The limits of the receiver have a `max_wait` and stay as they are. For `in_time` also `PopsInTime`: times do not fall; after a delivery, and after a pop that '
+            'The call returned Ok, and the premises of DATAGRAMS.txt. The limits of the receiver have a `max_wait` and stay as they are. For `in_time` also `PopsInTime`: times do not fall; after a delivery, and after a pop that '
             'returned a unit, the next delivery or pop has the same time, and there is one; after a pop that answered None, the next one comes by the deadline, or at once if that has '
             'passed, or the run ends. A run that meets this, with its log, is proved (`times_can_be_met`).',
             'Anything without `max_wait`, or if `max_wait` changes during the run. When a unit is skipped.',

@@ -94,6 +94,10 @@ list_first : (xs : List CompleteFrame) (f : CompleteFrame) → first_of xs ≡ S
 list_first [] f h = absurd (cc)
 list_first (x ∷ xs) f h = let e : x ≡ f = cc in (xs, ap (λ (y : CompleteFrame). y ∷ xs) e)
 
+-- when the last packet of the first frame arrived
+pub last_received : (hs : List Held) (f : CompleteFrame) (fs : List CompleteFrame) → frames hs ≡ f ∷ fs → (since : Ticks) × (received_of f.last hs ≡ Some since)
+last_received hs f fs are = received_some f.last hs (first_ends [] hs f (ap first_of are))
+
 -- the same of an equal list
 by_list : (hs gs : List Held) (f : CompleteFrame) → hs ≡ gs → first_of (frames gs) ≡ Some f → first_of (frames hs) ≡ Some f
 by_list hs gs f same is = ap (λ (ps : List Held). first_of (frames ps)) same ∙ is

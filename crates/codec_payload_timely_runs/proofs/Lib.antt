@@ -4,3 +4,5 @@ pub mod TimedTurns
 pub mod RunTimes
 pub mod TimelyRunExamples
 pub mod RedRunTimes
+pub mod OverdueLemmas
+pub mod AnswerLemmas

@@ -48,14 +48,14 @@ none_left s t passed is =
 no_frame : (f : CompleteFrame) (fs : List CompleteFrame) → f ∷ fs ≡ [] → ⊥
 no_frame f fs h = absurd (cc)
 
-abbrev wait_by : Bool → Bool → ℕ → Option ℕ
+abbrev pub wait_by : Bool → Bool → ℕ → Option ℕ
 wait_by pressed starting most = cond pressed (Some 0) (cond starting None (Some most))
 
 -- the first complete frame is not due
-is_before : (max_wait now since : ℕ) → leb max_wait (now - since) ≡ false → now < since + max_wait
+pub is_before : (max_wait now since : ℕ) → leb max_wait (now - since) ≡ false → now < since + max_wait
 is_before max_wait now since h = let l = leb-false max_wait (now - since) h in omega (arith, l)
 
-not_overdue : (ended overdue little : Bool) → (ended || (overdue || little)) ≡ false → overdue ≡ false
+pub not_overdue : (ended overdue little : Bool) → (ended || (overdue || little)) ≡ false → overdue ≡ false
 not_overdue false false little h = refl
 not_overdue false true little h = absurd (cc)
 not_overdue true overdue little h = absurd (cc)

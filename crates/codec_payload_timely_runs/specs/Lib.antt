@@ -1,3 +1,4 @@
 pub mod TimelyRuns
 pub mod TimelyRunExample
 pub mod RedTimes
+pub mod Overdue
