@@ -10,6 +10,8 @@ pub mod chooser;
 #[doc(hidden)]
 pub mod delays;
 #[doc(hidden)]
+pub mod estimator;
+#[doc(hidden)]
 pub mod losses;
 #[doc(hidden)]
 pub mod pacer;
@@ -26,6 +28,9 @@ pub use chooser::{LayerChoice, LayerChooser, LayerSettings, choose, trial_rate};
 
 #[doc(inline)]
 pub use delays::Delays;
+
+#[doc(inline)]
+pub use estimator::{BandwidthEstimator, PacketFate, PacketOutcome};
 
 #[doc(inline)]
 pub use losses::Losses;

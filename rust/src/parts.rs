@@ -22,7 +22,7 @@
 //! | [`descriptor`] | the dependency descriptor: which frames a frame of video refers to |
 //! | [`waiting`] | a limit of waiting that follows how late missing packets arrive |
 //! | [`freezes`] | how often and how long a picture stood still, by the rule of the W3C |
-//! | [`bandwidth`] | when packets leave for a viewer, how much may be retransmitted, which layers it gets, and measurements of its path |
+//! | [`bandwidth`] | when packets leave for a viewer, how much may be retransmitted, which layers it gets, and the rate of its path |
 //! | [`layers`] | whether a keyframe begins in a payload, and its temporal layer |
 //! | [`edges`] | where pictures of video begin and end, and the numbers between them, which carry no media |
 //! | [`media`] | what frames say: keyframe, size, duration; OBUs, superframes, `av1C`, the Opus header |
@@ -247,13 +247,13 @@ pub mod layers {
     pub use crate::layers::*;
 }
 
-/// When packets leave for a viewer, by a rate, how much may be retransmitted, which layers it gets, and measurements of its path.
+/// When packets leave for a viewer, by a rate, how much may be retransmitted, which layers it gets, and the rate of its path.
 pub mod bandwidth {
     #[doc(inline)]
     pub use crate::bandwidth::{
-        Arrivals, Delays, LayerChoice, LayerChooser, LayerSettings, Losses, PacedKind, PacedPacket,
-        Pacer, PacerError, PacerSettings, PathRate, ResendLimit, ResendRefused, ResendSettings,
-        Trial, choose, trial_rate,
+        Arrivals, BandwidthEstimator, Delays, LayerChoice, LayerChooser, LayerSettings, Losses,
+        PacedKind, PacedPacket, Pacer, PacerError, PacerSettings, PacketFate, PacketOutcome,
+        PathRate, ResendLimit, ResendRefused, ResendSettings, Trial, choose, trial_rate,
     };
 
     #[doc(hidden)]

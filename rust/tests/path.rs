@@ -3,7 +3,9 @@
 mod random;
 
 use codec_payload::Ticks;
-use codec_payload::bandwidth::{Arrivals, Delays, Losses, PathRate, Trial};
+use codec_payload::bandwidth::{
+    Arrivals, BandwidthEstimator, Delays, Losses, PacketFate, PacketOutcome, PathRate, Trial,
+};
 use random::Dice;
 
 /// What stands in the queue: the least delay of the last 32 packets that are among the latest four or were sent in the last 25 ms, above
@@ -182,4 +184,95 @@ fn the_rate_stays_within() {
         to: 0,
     };
     assert_eq!(back.rate(Ticks(u64::MAX)), u64::MAX);
+}
+
+/// Whatever feedback says, the estimate stays within its bounds.
+#[test]
+fn the_estimate_of_lies() {
+    let mut dice = Dice(15);
+    for _ in 0..200 {
+        let (least, most) = (1 + dice.below(100_000), 100_000 + dice.below(1 << 30));
+        let mut now = dice.below(1 << 30);
+        let mut estimator = BandwidthEstimator::new(Ticks(now), dice.below(1 << 30), least, most);
+        for _ in 0..60 {
+            now += [1_000, 100_000, 3_000_000][dice.below(3) as usize];
+            let fates: Vec<PacketFate> = (0..dice.below(60))
+                .map(|_| PacketFate {
+                    sent: [0, u64::MAX, now.saturating_sub(dice.below(1 << 20))]
+                        [dice.below(3) as usize],
+                    size: [0, u32::MAX, dice.below(1_500) as u32][dice.below(3) as usize],
+                    outcome: match dice.below(5) {
+                        0 => PacketOutcome::Lost,
+                        1 => PacketOutcome::Unknown,
+                        2 => PacketOutcome::Arrived([0, u64::MAX][dice.below(2) as usize]),
+                        _ => PacketOutcome::Arrived(now + dice.below(1 << 20)),
+                    },
+                })
+                .collect();
+            let round_trip = [0, 40_000, u64::MAX][dice.below(3) as usize];
+            estimator.feedback(Ticks(now), round_trip, &fates);
+            let wanted = [0, u64::MAX, dice.below(1 << 25)][dice.below(3) as usize];
+            estimator.tick(Ticks(now), dice.below(1 << 25), wanted);
+            assert!((least..=most).contains(&estimator.estimate()));
+            assert!(estimator.carries() <= estimator.estimate());
+            if let Some(trial) = estimator.trial() {
+                assert!(trial.from <= trial.to && !estimator.is_draining());
+                assert!(estimator.pace(Ticks(now)) >= estimator.estimate());
+            }
+        }
+    }
+}
+
+/// Another clock of the receiver, and the same estimates; on a path whose queue changes.
+#[test]
+fn the_estimate_by_another_clock() {
+    let mut dice = Dice(16);
+    let mut changes = 0;
+    for _ in 0..100 {
+        let new = || BandwidthEstimator::new(Ticks(1_000_000), 300_000, 30_000, 5_000_000);
+        let (mut one, mut two) = (new(), new());
+        let (mut now, ahead, mut queue) = (1_000_000, dice.below(1 << 30) * 1_000, 0);
+        for _ in 0..200 {
+            let mut fates = Vec::new();
+            for _ in 0..dice.below(20) {
+                now += dice.below(20_000);
+                queue = (queue + dice.below(20_000)).saturating_sub(dice.below(20_000));
+                let outcome = PacketOutcome::Arrived(now + 20_000 + queue);
+                fates.push(PacketFate {
+                    sent: now,
+                    size: 1_000,
+                    outcome,
+                });
+            }
+            let moved: Vec<PacketFate> = fates
+                .iter()
+                .map(|it| match it.outcome {
+                    PacketOutcome::Arrived(at) => PacketFate {
+                        outcome: PacketOutcome::Arrived(at + ahead),
+                        ..*it
+                    },
+                    _ => *it,
+                })
+                .collect();
+            let before = one.estimate();
+            one.feedback(Ticks(now), 40_000, &fates);
+            two.feedback(Ticks(now), 40_000, &moved);
+            one.tick(Ticks(now), 200_000, 600_000);
+            two.tick(Ticks(now), 200_000, 600_000);
+            assert_eq!((one.estimate(), one.trial()), (two.estimate(), two.trial()));
+            changes += u32::from(one.estimate() != before);
+        }
+    }
+    assert!(changes > 100, "{changes}");
+}
+
+#[test]
+fn silence_halves_the_rate() {
+    let mut estimator = BandwidthEstimator::new(Ticks(0), 800_000, 150_000, 5_000_000);
+    estimator.tick(Ticks(700_000), 0, 0);
+    assert_eq!(estimator.estimate(), 800_000);
+    for (number, rate) in [400_000, 200_000, 150_000, 150_000].into_iter().enumerate() {
+        estimator.tick(Ticks(700_001 * (number as u64 + 1)), 0, 0);
+        assert_eq!(estimator.estimate(), rate);
+    }
 }

@@ -1,7 +1,7 @@
 """Where the modules of the proved crates go in the one crate of plain Rust."""
 
 # The crates of the library, each after the crates that it uses.
-LIBRARY = ["base", "audio", "vp8", "vp9", "av1", "red", "rtp", "sending_red", "rtcp", "feedback_congestion", "sending_history", "sending_forward", "syntax", "vpx", "descriptor", "media", "keyframes", "feedback_requests", "feedback", "feedback_transport", "feedback_ccfb", "feedback_xr", "feedback_wait", "feedback_freezes", "bandwidth_pacer", "bandwidth_layers", "bandwidth_estimate", "bandwidth", "layers", "edges", "index", "queue", "references", "codec", "contiguity", "metadata", "buffer", "numbers", "jitter", "datagrams", "receiver", "session_formats", "session_requests", "session_stream", "session", "sending",
+LIBRARY = ["base", "audio", "vp8", "vp9", "av1", "red", "rtp", "sending_red", "rtcp", "feedback_congestion", "sending_history", "sending_forward", "syntax", "vpx", "descriptor", "media", "keyframes", "feedback_requests", "feedback", "feedback_transport", "feedback_ccfb", "feedback_xr", "feedback_wait", "feedback_freezes", "bandwidth_pacer", "bandwidth_layers", "bandwidth_estimate", "bandwidth_estimator", "bandwidth", "layers", "edges", "index", "queue", "references", "codec", "contiguity", "metadata", "buffer", "numbers", "jitter", "datagrams", "receiver", "session_formats", "session_requests", "session_stream", "session", "sending",
            "payloader", "buffer_runs", "datagram_runs", "forward_runs", "session_runs", "server_runs"]
 # The library for C.
 NOT_HERE = {"handle", "c", "c_packets", "c_receiving"}
@@ -12,7 +12,7 @@ PLACES = {"index": "index", "metadata": "metadata", "queue": "queue", "syntax": 
           "buffer_runs": "schedule", "datagram_runs": "schedule::datagrams", "forward_runs": "schedule::forwarded", "session_runs": "session::runs", "server_runs": "schedule::served"}
 # Crates below others whose modules stand among those of a crate above: for each module, that crate.
 HOMES = {"bandwidth_pacer": {"pacer": "bandwidth", "resends": "bandwidth"}, "bandwidth_layers": {"chooser": "bandwidth"},
-         "bandwidth_estimate": {"arrivals": "bandwidth", "delays": "bandwidth", "losses": "bandwidth", "rate": "bandwidth"},
+         "bandwidth_estimate": {"arrivals": "bandwidth", "delays": "bandwidth", "losses": "bandwidth", "rate": "bandwidth"}, "bandwidth_estimator": {"estimator": "bandwidth"},
          "numbers": {"noted_times": "jitter", "numbers": "jitter", "seen_times": "receiver", "statistics": "receiver", "windows": "receiver"},
          "datagrams": {"choice": "receiver", "kinds": "receiver", "parsed": "receiver"},
          "session_formats": {"checks": "session", "formats": "session", "names": "session", "sort": "session"},

@@ -3,5 +3,6 @@
 #![tactic(auto)]
 
 pub use codec_payload_bandwidth_estimate::{arrivals, delays, losses, rate};
+pub use codec_payload_bandwidth_estimator::estimator;
 pub use codec_payload_bandwidth_layers::chooser;
 pub use codec_payload_bandwidth_pacer::{pacer, resends};
