@@ -10,7 +10,7 @@ pub numbers_none : (mask base : ℕ) → numbers_in 0 mask base ≡ []
 unfolding numbers_in
 numbers_none mask base = refl
 
-numbers_suc : (n mask base : ℕ) → numbers_in (suc n) mask base ≡ numbers_in n mask base ++ if_set (is_set n mask) (number_at n base)
+pub numbers_suc : (n mask base : ℕ) → numbers_in (suc n) mask base ≡ numbers_in n mask base ++ if_set (is_set n mask) (number_at n base)
 unfolding numbers_in
 numbers_suc n mask base = refl
 

@@ -20,7 +20,7 @@ short (a ∷ b ∷ c ∷ d ∷ e ∷ f ∷ g ∷ i ∷ j ∷ k ∷ []) h = refl
 short (a ∷ b ∷ c ∷ d ∷ e ∷ f ∷ g ∷ i ∷ j ∷ k ∷ l ∷ []) h = refl
 short (a ∷ b ∷ c ∷ d ∷ e ∷ f ∷ g ∷ i ∷ j ∷ k ∷ l ∷ m ∷ ps) h = absurd (omega (arith, h))
 
-xor_none : (xs : List ℕ) → xor_bytes xs [] ≡ xs
+pub xor_none : (xs : List ℕ) → xor_bytes xs [] ≡ xs
 xor_none [] = refl
 xor_none (x ∷ xs) = refl
 
@@ -39,3 +39,6 @@ added_short p a h =
     ap (λ (b : BitString). record (xor a b) { bytes = take (length a.bytes) (xor a b).bytes }) (short p h)
     ∙ same_bits (record (xor a no_bits) { bytes = take (length a.bytes) (xor_bytes a.bytes []) }) a
     (xor_zero_r a.first) (xor_zero_r a.second) (xor_zero_r a.time) (xor_zero_r a.size) (ap (take (length a.bytes)) (xor_none a.bytes) ∙ take_all (length a.bytes) a.bytes (omega arith))
+
+pub with_bytes : (a b : BitString) → b.first ≡ a.first → b.second ≡ a.second → b.time ≡ a.time → b.size ≡ a.size → (bytes : List ℕ) → b.bytes ≡ bytes → b ≡ record a { bytes = bytes }
+with_bytes a b e1 e2 e3 e4 bytes e5 = same_bits b (record a { bytes = bytes }) e1 e2 e3 e4 e5

@@ -5,3 +5,4 @@ pub mod Rebuilding
 pub mod Stores
 pub mod Strings
 pub mod Sums
+pub mod Writing

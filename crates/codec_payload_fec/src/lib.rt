@@ -6,3 +6,4 @@ pub mod rebuilding;
 pub mod store;
 mod strings;
 pub mod theorems;
+pub mod writing;

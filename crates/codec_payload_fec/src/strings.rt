@@ -1,11 +1,11 @@
 //! Exclusive or of byte strings, and of bit strings of packets.
 
-ghost use Rattle.std.specs.Prelude.{◌≡◌, IfOk, length, take};
+ghost use Rattle.std.specs.Prelude.{◌≡◌, ◌++◌, ◌-◌, IfOk, OnOk, length, replicate, take};
 ghost use Rattle.std.specs.Option.{option_map};
 ghost use Rattle.codec_payload_fec.specs.FecReading.{fec_of};
 ghost use Rattle.codec_payload_fec.specs.Rebuilding.{bytes_of, packet_of};
-ghost use Rattle.codec_payload_fec.specs.Strings.{added, xor_bytes};
-ghost use Rattle.codec_payload_fec.specs.Sums.{sum_of, zero_bits};
+ghost use Rattle.codec_payload_fec.specs.Strings.{added, bit_string, no_bits, xor, xor_bytes};
+ghost use Rattle.codec_payload_fec.specs.Sums.{sum_of};
 
 use crate::packet::FecPacket;
 use codec_payload_rtp::rtp::RtpPacket;
@@ -21,6 +21,17 @@ pub(crate) fn xor_into(sum: &mut [u8], bytes: &[u8])
     }
 }
 
+/// Appends zeros up to that length.
+fn pad(bytes: &mut Vec<u8>, size: usize) -> Result<(), AllocError>
+    ensures { OnOk result (bytes.new.items ≡ bytes.old.items ++ replicate (size - length bytes.old.items) 0) }
+{
+    let len = bytes.len();
+    if len < size {
+        bytes.resize(size, 0)?;
+    }
+    Ok(())
+}
+
 /// The exclusive or of bit strings: the fields of the fixed header that FEC protects, the length of what is after it, and these bytes.
 #[derive(Drop)]
 pub(crate) struct Sum {
@@ -32,19 +43,26 @@ pub(crate) struct Sum {
 }
 
 impl Sum {
-    /// Returns zeros, with that many bytes after the header.
-    pub(crate) fn zeros(alloc: Global, count: usize) -> Result<Sum, AllocError>
-        ensures { IfOk result (λ s. sum_of s ≡ zero_bits count) }
+    /// Returns the sum of no bit strings. Does not allocate.
+    pub(crate) fn zeros(alloc: Global) -> Sum
+        ensures { sum_of result ≡ no_bits }
     {
-        let mut bytes = Vec::new(alloc);
-        bytes.resize(count, 0)?;
-        Ok(Sum {
+        Sum {
             first: 0,
             second: 0,
             time: 0,
             size: 0,
-            bytes,
-        })
+            bytes: Vec::new(alloc),
+        }
+    }
+
+    /// Adds the bit string of a packet. The sum becomes as long as the longer one of the two.
+    pub(crate) fn add_whole(&mut self, packet: &[u8]) -> Result<(), AllocError>
+        ensures { OnOk result (sum_of self.new ≡ xor (sum_of self.old) (bit_string packet.now)) }
+    {
+        pad(&mut self.bytes, packet.len().saturating_sub(12))?;
+        self.add(packet);
+        Ok(())
     }
 
     /// Returns the recovery fields of a packet of FEC, and a copy of its payload.

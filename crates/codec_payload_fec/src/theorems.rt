@@ -3,6 +3,7 @@
 ghost use Rattle.codec_payload_fec.specs.FecReading.{FecComesBack, ReadIsSpelled};
 ghost use Rattle.codec_payload_fec.specs.Protecting.{RebuildsPackets, RebuildsTheMissing, TwoRebuildNothing};
 ghost use Rattle.codec_payload_fec.specs.Strings.{XorAssociates, XorCommutes, XorUndoesItself};
+ghost use Rattle.codec_payload_fec.specs.Writing.{RebuiltIsSent};
 
 /// Proves that a packet of FEC is read again from its bytes, exactly as it was.
 pub fn fec_comes_back()
@@ -42,4 +43,10 @@ pub fn rebuilds_the_missing()
 /// Proves that a packet of FEC of which two or more packets are missing rebuilds nothing.
 pub fn two_rebuild_nothing()
     ensures { TwoRebuildNothing }
+{}
+
+/// Proves that what packets of FEC of [`FecWriter`](crate::writing::FecWriter) rebuild are packets that were sent, byte for byte, for any
+/// packets of a stream, any protection, and whatever packets were lost.
+pub fn rebuilt_is_sent()
+    ensures { RebuiltIsSent }
 {}
