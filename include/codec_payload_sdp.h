@@ -279,7 +279,8 @@ typedef struct {
  *   the first format of media of its section. Retransmissions have the first format of RTX whose `apt` is the payload type, and
  *   those of RED the first one whose `apt` is RED's. `nack` and `pli` are as in `a=rtcp-fb`. If two sections have a payload type,
  *   packets or keyframes of it are requested only if both agree on that. If RED that names no payload type would be over two
- *   formats, it is over the first.
+ *   formats, it is over the first. Video has no RED if the section lists `ulpfec` or other error correction: refuse `red` and
+ *   `ulpfec` of video, since sessions do not use FEC. RED of audio stays.
  * - `no_media`: comfort noise, error correction, and telephone events, whose packets polls report.
  * - Pairs of SSRCs (`a=ssrc-group:FID`), and ids of header extensions, of all sections: those of values, those of MID, RID and
  *   repaired RID (`name_ids`), and `dependency_descriptor`.

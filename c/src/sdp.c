@@ -619,9 +619,18 @@ static bool is_first_media(const cpay_sdp_media *media, const cpay_sdp_format *f
     return true;
 }
 
+/* Whether RED of the section carries FEC beside video. Sessions do not use FEC, so this RED has to be refused. */
+static bool has_fec_in_red(const cpay_sdp_media *media, const cpay_sdp_format *format) {
+    if (format->codec != CPAY_VP8 && format->codec != CPAY_VP9 && format->codec != CPAY_AV1) return false;
+    for (size_t i = 0; i < media->format_count; i++)
+        if (media->formats[i].role == CPAY_SDP_FEC) return true;
+    return false;
+}
+
 /* The format of a session for a format of media. */
 static cpay_session_format session_format(const cpay_sdp_media *media, const cpay_sdp_format *format) {
-    const cpay_sdp_format *red = red_over(media, format->payload_type, is_first_media(media, format));
+    bool is_first = is_first_media(media, format);
+    const cpay_sdp_format *red = has_fec_in_red(media, format) ? NULL : red_over(media, format->payload_type, is_first);
     cpay_session_format it = {.payload_type = format->payload_type, .nack = format->nack, .pli = format->pli};
     it.spec.codec = format->codec;
     it.spec.rate = format->clock_rate;

@@ -139,6 +139,8 @@ pub mod edges;
 #[doc(hidden)]
 pub mod error;
 #[doc(hidden)]
+pub mod fec;
+#[doc(hidden)]
 pub mod feedback;
 #[doc(hidden)]
 pub mod forward;

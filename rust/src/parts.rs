@@ -19,6 +19,7 @@
 //! | [`transport`] | the sending side of that: the numbers and times of sent packets, and what feedback reports about them |
 //! | [`ccfb`] | congestion control feedback of RFC 8888 |
 //! | [`xr`] | extended reports of RFC 3611 that measure the round trip from a receiver |
+//! | [`fec`] | forward error correction by ULPFEC (RFC 5109): packets of FEC, and the packets that they rebuild |
 //! | [`descriptor`] | the dependency descriptor: which frames a frame of video refers to |
 //! | [`waiting`] | a limit of waiting that follows how late missing packets arrive |
 //! | [`freezes`] | how often and how long a picture stood still, by the rule of the W3C |

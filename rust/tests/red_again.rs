@@ -345,6 +345,12 @@ fn by_the_session_description() -> Result<(), Fail> {
     assert_eq!((red.payload_type, red.retransmission), (98, Some(99)));
     let plain = settings.retransmission.ok_or("no RTX")?;
     assert_eq!((plain.ssrc, plain.payload_type), (8, 97));
+    // A session does not use FEC, so it does not take RED that carries it. Without FEC in the section it does.
+    let format = media.session_format(96).ok_or("no format")?;
+    assert_eq!((format.red, format.retransmission), (None, Some(97)));
+    let without = text.replace("a=rtpmap:100 ulpfec/90000\r\n", "");
+    let description = sdp::read(&without)?;
+    let media = description.first().ok_or("no section")?;
     let format = media.session_format(96).ok_or("no format")?;
     assert_eq!((format.red, format.retransmission), (Some(red), Some(97)));
     Ok(())

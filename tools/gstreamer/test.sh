@@ -81,9 +81,9 @@ audio pcma 8000 160 alawenc rtppcmapay
 audio g722 16000 320 avenc_g722 rtpg722pay
 audio amrwb 16000 320 voamrwbenc
 
-# ---- captures ----
+# ---- captures; chromium-fec has its video in RED with FEC, which a session does not take ----
 captures=../rtp_record/captures
-for name in chromium-vp8 chromium-vp9 chromium-av1 chromium-fec chromium-layers chromium-av1-layers chromium-change vp8 vp9 opus pcmu pcma g722; do
+for name in chromium-vp8 chromium-vp9 chromium-av1 chromium-layers chromium-av1-layers chromium-change vp8 vp9 opus pcmu pcma g722; do
     pad=video_0
     case $name in opus | pcmu | pcma | g722) pad=audio_0 ;; esac
     list=$captures/$name.md5

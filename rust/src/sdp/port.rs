@@ -186,7 +186,8 @@ impl Media<'_> {
     ///
     /// - RED: the RED format over the payload type. RED that names no payload type is over the first format of media of its
     ///   section: a session finds the stream of a RED packet by its payload type alone. The step is that of
-    ///   [`Media::receiver_settings`].
+    ///   [`Media::receiver_settings`]. Video has no RED if the section lists `ulpfec` or other error correction: refuse `red` and
+    ///   `ulpfec` of video, since sessions do not use FEC.
     /// - Retransmissions: the first format of RTX whose `apt` is the payload type, and for RED the first one whose `apt` is RED's.
     /// - `nack` and `pli`: by `a=rtcp-fb`.
     #[must_use]
@@ -196,7 +197,11 @@ impl Media<'_> {
             return None;
         };
         let is_first = self.first_media() == Some(payload_type);
-        let red = self.red_settings(payload_type, spec.clock_rate, is_first);
+        let red = if is_video(spec.codec) && self.has_error_correction() {
+            None
+        } else {
+            self.red_settings(payload_type, spec.clock_rate, is_first)
+        };
         Some(Format {
             red,
             retransmission: self.retransmission_type(payload_type),
@@ -204,6 +209,12 @@ impl Media<'_> {
             pli: format.feedback.pli,
             ..Format::new(payload_type, spec)
         })
+    }
+
+    /// Whether the section has error correction, which video has in RED. Sessions do not use it, so this RED has to be refused.
+    fn has_error_correction(&self) -> bool {
+        let mut formats = self.formats.iter();
+        formats.any(|format| format.role == Role::ErrorCorrection)
     }
 
     /// Whether `a=rtcp-fb` of the payload type has `transport-cc`.

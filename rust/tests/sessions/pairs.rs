@@ -3,6 +3,7 @@
 use crate::Fail;
 use crate::datagrams::*;
 use codec_payload::session::*;
+use codec_payload::stream::RedSettings;
 use codec_payload::*;
 
 /// A session of VP8 with retransmissions and VP9 without, in which a stream begins with its first packet.
@@ -151,12 +152,27 @@ fn pairs_at_the_edge() -> Result<(), Fail> {
     Ok(())
 }
 
+/// The settings of a caller who accepts RED of video beside error correction: the description alone does not set it.
+fn settings_with_red() -> Result<SessionSettings, Fail> {
+    let text = include_str!("../../../c/tests/sdp/gstreamer.sdp");
+    let mut settings = codec_payload::sdp::session_settings(&codec_payload::sdp::read(text)?)?;
+    assert_eq!(
+        (settings.formats[0].payload_type, settings.formats[0].red),
+        (96, None)
+    );
+    settings.formats[0].red = Some(RedSettings {
+        payload_type: 98,
+        step: 1_800,
+        retransmission: Some(101),
+    });
+    Ok(settings)
+}
+
 /// Video in RED (RFC 2198), as Chromium and GStreamer send it with error correction: a retransmission of RED has another payload
 /// type, whose `apt` is RED's. It goes to the stream as the RED packet that was lost, as the retransmission of the media itself does.
 #[test]
 fn retransmissions_of_red() -> Result<(), Fail> {
-    let text = include_str!("../../../c/tests/sdp/gstreamer.sdp");
-    let mut settings = codec_payload::sdp::session_settings(&codec_payload::sdp::read(text)?)?;
+    let mut settings = settings_with_red()?;
     settings.video.start = 0;
     settings.probation = 1;
     let (vp8, red, rtx, rtx_of_red) = (96, 98, 100, 101);
@@ -187,16 +203,13 @@ fn retransmissions_of_red() -> Result<(), Fail> {
 /// The same without a payload type of retransmissions of the media, or under an SSRC without a pair: it is not for a stream.
 #[test]
 fn retransmissions_of_red_alone() -> Result<(), Fail> {
-    let text = include_str!("../../../c/tests/sdp/gstreamer.sdp");
-    let sections = codec_payload::sdp::read(text)?;
-    let mut without = codec_payload::sdp::session_settings(&sections)?;
+    let mut without = settings_with_red()?;
     without.formats[0].retransmission = None;
     let mut session = Session::new(without).expect("settings that can be met");
     let of_red = |ssrc| packet(101, ssrc, 7, 9_000, &[0, 3, 96, 0x10, 3]);
     let arrival = session.receive(Ticks(0), &of_red(3_396_958_610))?;
     assert_eq!(arrival, Arrival::Unknown);
-    let mut session = Session::new(codec_payload::sdp::session_settings(&sections)?)
-        .expect("settings that can be met");
+    let mut session = Session::new(settings_with_red()?).expect("settings that can be met");
     assert_eq!(
         session.receive(Ticks(0), &of_red(5))?,
         Arrival::Unassociated

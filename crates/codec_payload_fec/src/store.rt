@@ -1,0 +1,122 @@
+//! The latest packets of a stream.
+
+ghost use Rattle.std.specs.Prelude.{◌≡◌, ◌%◌, ◌==◌, IfOk, None, OnErr, OnOk, length, replicate, slice_index_or, ◌<◌};
+ghost use Rattle.std.specs.Option.{option_map};
+ghost use Rattle.codec_payload_fec.specs.Rebuilding.{found_in, matching};
+ghost use Rattle.codec_payload_fec.specs.Stores.{kept, no_packets, slots_of};
+ghost use Rattle.codec_payload_fec.specs.Strings.{number_of};
+
+use std::alloc::{AllocError, Global};
+use std::marker::Model;
+
+/// How many packets are kept.
+const KEPT: usize = 512;
+
+/// The latest packets of a stream, each at its number modulo 512. A packet replaces the one at its place.
+#[derive(Drop)]
+pub struct PacketStore {
+    alloc: Global,
+    slots: Vec<Option<Vec<u8>>>,
+    /// The largest packet that is kept, in bytes.
+    largest: usize,
+}
+
+impl Model for PacketStore {
+    ghost use Rattle.std.specs.Prelude.{◌≡◌, length};
+    ghost use Rattle.codec_payload_fec.specs.Stores.{Store, slots_of};
+
+    ghost Value = { Store };
+
+    ghost view = { λ s. record { slots = slots_of s.slots.items; largest = s.largest } };
+
+    ghost invariant = { λ s. length s.slots.items ≡ 512 };
+}
+
+/// Returns the sequence number of a packet; 0 for fewer than 4 bytes.
+#[tactic(auto, unfolding(crate::specs::Strings::number_of))]
+pub(crate) fn number_of(packet: &[u8]) -> u16
+    ensures { result ≡ number_of packet.now }
+{
+    let [_b0, _b1, n1, n0, ..] = packet else {
+        return 0;
+    };
+    u16::from_be_bytes([*n1, *n0])
+}
+
+/// Returns the packet at a place.
+fn slot_at(slots: &[Option<Vec<u8>>], place: usize) -> Option<&[u8]>
+    requires { place < length slots.now }
+    ensures { option_map (λ p. p.now) result ≡ slice_index_or (slots_of slots.now) place None }
+{
+    match &slots[place] {
+        None => None,
+        Some(packet) => Some(packet.as_slice()),
+    }
+}
+
+/// Returns a packet, if it has that number.
+fn matching(number: u16, packet: Option<&[u8]>) -> Option<&[u8]>
+    ensures { option_map (λ p. p.now) result ≡ matching number (option_map (λ p. p.now) packet.entry) }
+{
+    match packet {
+        Some(packet) if number_of(packet) == number => Some(packet),
+        _ => None,
+    }
+}
+
+/// Returns 512 empty places.
+fn empty_slots(alloc: Global) -> Result<Vec<Option<Vec<u8>>>, AllocError>
+    ensures { IfOk result (λ v. v.items ≡ replicate 512 None) }
+{
+    let mut slots = Vec::new(alloc);
+    for _place in 0..KEPT {
+        slots.push(None)?;
+    }
+    Ok(slots)
+}
+
+impl PacketStore {
+    /// Returns a store without packets. `bytes`: how much memory the packets may take in all. A packet that is larger than the 512th part
+    /// of it is not kept.
+    ///
+    /// # Errors
+    ///
+    /// Out of memory: the places alone take 12 kB.
+    pub fn new(alloc: Global, bytes: usize) -> Result<PacketStore, AllocError>
+        ensures { IfOk result (λ s. s ≡ no_packets bytes) }
+    {
+        Ok(PacketStore {
+            alloc,
+            slots: empty_slots(alloc)?,
+            largest: bytes / KEPT,
+        })
+    }
+
+    /// Returns the packet with this number, if it is kept.
+    pub fn find(&self, number: u16) -> Option<&[u8]>
+        ensures { option_map (λ p. p.now) result ≡ found_in self.now.slots number }
+    {
+        matching(
+            number,
+            slot_at(self.slots.as_slice(), usize::from(number) % KEPT),
+        )
+    }
+
+    /// Keeps a copy of a packet, and drops the one at its place. A packet that is too large is not kept.
+    ///
+    /// # Errors
+    ///
+    /// Out of memory: nothing changes.
+    pub fn keep(&mut self, packet: &[u8]) -> Result<(), AllocError>
+        ensures ok { OnOk result (self.new ≡ kept packet.now self.old) }
+        ensures err { OnErr result (self.new ≡ self.old) }
+    {
+        if packet.len() > self.largest {
+            return Ok(());
+        }
+        let copy = Vec::from_slice(self.alloc, packet)?;
+        let place = usize::from(number_of(packet)) % KEPT;
+        self.slots[place] = Some(copy);
+        Ok(())
+    }
+}
