@@ -1,5 +1,5 @@
--- The times at which the units of a run in RED come. The facts about what is sent and received are those of RedReleaseLemmas of
--- codec_payload_datagram_runs.
+-- The times at which the units of a run in RED come. What stands in front of `at_pops` repeats RedReleaseLemmas of
+-- codec_payload_datagram_runs, whose names for these facts are private.
 use Rattle.std.proofs.Common.{◌≡◌, ◌∙◌, refl, sym, ap, subst, ℕ, ◌+◌, ◌-◌, ◌%◌, ◌^◌, ◌<◌, ◌≤◌, List, [], ◌∷◌, ◌++◌, inr, inl, Bool, true, false, eqb, Option, None, Some, length, arith}
 use Rattle.std.specs.Prelude.{slice_get}
 use Rattle.std.proofs.lemmas.Bool.{eq-eqb}

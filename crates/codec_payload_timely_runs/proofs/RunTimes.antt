@@ -1,5 +1,5 @@
--- The times at which the units of a run over datagrams come. The facts about what is sent and received are those of ReleaseLemmas of
--- codec_payload_datagram_runs.
+-- The times at which the units of a run over datagrams come. What stands in front of `at_pops` repeats ReleaseLemmas of
+-- codec_payload_datagram_runs, whose names for these facts are private.
 use Rattle.std.proofs.Common.{◌≡◌, ◌∙◌, refl, sym, ap, subst, ℕ, ◌+◌, ◌%◌, ◌^◌, ◌<◌, List, [], ◌∷◌, false, Bool, Option, None, length, arith}
 use Rattle.std.proofs.lemmas.Option.{slice_get_within}
 use Rattle.codec_payload_buffer.proofs.MemberLemmas.{contains_in, in_contains}
