@@ -1,6 +1,7 @@
 //! RTCP packets, requests, feedback for congestion control, and the header of RTP packets.
 
 use crate::{Call, made, told};
+use codec_payload::bandwidth::{PacedKind, PacedPacket, Pacer, PacerSettings};
 use codec_payload::ccfb::{CongestionFeedback, PacketMetric, StreamReport, stream_report};
 use codec_payload::congestion::*;
 use codec_payload::feedback::{
@@ -13,7 +14,8 @@ use codec_payload::transport::{SentPackets, write_numbered};
 use codec_payload::wire::*;
 use codec_payload::xr::{Dlrr, write_dlrr, write_reference_time};
 
-pub const CALLS: [Call; 14] = [
+pub const CALLS: [Call; 15] = [
+    Call(&["Pacer::push"], paced),
     Call(
         &[
             "ReportBlock::write",
@@ -335,6 +337,29 @@ fn transport(size: usize) {
             made(sent.assign(Ticks(now)));
         }
         assert_eq!(made(sent.results(&feedback)).len(), size);
+    }
+}
+
+fn paced(size: usize) {
+    let mut pacer = Pacer::new(
+        1,
+        PacerSettings {
+            burst: 0,
+            bound: u64::MAX,
+        },
+    );
+    for id in 0..size as u64 {
+        let kind = [
+            PacedKind::Audio,
+            PacedKind::Resent,
+            PacedKind::Media,
+            PacedKind::Padding,
+        ][id as usize % 4];
+        made(pacer.push(PacedPacket {
+            kind,
+            size: 1_200,
+            id,
+        }));
     }
 }
 
