@@ -3,8 +3,8 @@
 # The crates of the library, each after the crates that it uses.
 LIBRARY = ["base", "audio", "vp8", "vp9", "av1", "red", "rtp", "sending_red", "rtcp", "feedback_congestion", "sending_history", "sending_forward", "syntax", "vpx", "descriptor", "media", "keyframes", "feedback_requests", "feedback", "feedback_transport", "feedback_ccfb", "feedback_xr", "feedback_wait", "feedback_freezes", "layers", "edges", "index", "queue", "references", "codec", "contiguity", "metadata", "buffer", "numbers", "jitter", "datagrams", "receiver", "session_formats", "session_requests", "session_stream", "session", "sending",
            "payloader", "buffer_runs", "datagram_runs", "forward_runs", "session_runs", "server_runs"]
-# The library for C.
-NOT_HERE = {"handle", "c", "c_packets", "c_receiving"}
+# The library for C, and runs that do the same as those of `datagram_runs`, with one more clause.
+NOT_HERE = {"handle", "c", "c_packets", "c_receiving", "timely_runs"}
 # Names the users' modules of the library again.
 FACADE = "core"
 # The module below which a crate's modules go. Modules of all other crates go to the root.
