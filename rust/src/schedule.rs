@@ -11,7 +11,6 @@ pub mod red;
 #[doc(hidden)]
 pub mod run;
 pub mod served;
-pub mod timely;
 
 pub use crate::schedule::red::run_in_red;
 pub use crate::schedule::run::{RedRun, Run, Sent, Step, Stream, run_schedule, run_stream};
