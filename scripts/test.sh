@@ -112,7 +112,7 @@ proofs=
 if [ "${1:-}" != --no-proofs ]; then
     scripts/kit.py free || exit 1
     began_proofs=$(date +%s)
-    setsid scripts/kept_ci.py >"$work/proofs" 2>&1 &
+    setsid --wait scripts/kept_ci.py >"$work/proofs" 2>&1 &
     proofs=$!
     trap 'kill -- -$proofs 2>/dev/null; rm -rf "$work"' EXIT
     trap 'exit 130' INT TERM
