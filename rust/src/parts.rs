@@ -209,6 +209,15 @@ pub mod xr {
     pub use crate::xr::*;
 }
 
+/// Forward error correction by ULPFEC (RFC 5109): packets of FEC, read and written, and the packets that they rebuild.
+pub mod fec {
+    #[doc(inline)]
+    pub use crate::fec::{FecFault, FecPacket, FecWriter, PacketStore};
+
+    #[doc(hidden)]
+    pub use crate::fec::*;
+}
+
 /// The dependency descriptor of a frame of video: its layer, and which frames it refers to (AV1 RTP specification, appendix A).
 pub mod descriptor {
     #[doc(inline)]
