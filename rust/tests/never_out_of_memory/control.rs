@@ -4,9 +4,11 @@ use crate::{Call, made, told};
 use codec_payload::bandwidth::{PacedKind, PacedPacket, Pacer, PacerSettings};
 use codec_payload::ccfb::{CongestionFeedback, PacketMetric, StreamReport, stream_report};
 use codec_payload::congestion::*;
+use codec_payload::fec::{FecPacket, FecWriter, PacketStore};
 use codec_payload::feedback::{
     FeedbackSource, StreamRequests, TransportReporter, TransportSettings,
 };
+use codec_payload::payloads::Payloads;
 use codec_payload::requests::{NackSchedule, NackSettings};
 use codec_payload::rtcp::*;
 use codec_payload::rtp::*;
@@ -14,8 +16,18 @@ use codec_payload::transport::{SentPackets, write_numbered};
 use codec_payload::wire::*;
 use codec_payload::xr::{Dlrr, write_dlrr, write_reference_time};
 
-pub const CALLS: [Call; 15] = [
+pub const CALLS: [Call; 16] = [
     Call(&["Pacer::push"], paced),
+    Call(
+        &[
+            "FecPacket::rebuild",
+            "FecPacket::write",
+            "FecWriter::write",
+            "PacketStore::keep",
+            "PacketStore::new",
+        ],
+        corrected,
+    ),
     Call(
         &[
             "ReportBlock::write",
@@ -360,6 +372,37 @@ fn paced(size: usize) {
             size: 1_200,
             id,
         }));
+    }
+}
+
+/// Frames of packets of this size, the first of which is lost.
+fn corrected(size: usize) {
+    let payload = vec![9; size.min(65_535)];
+    let writer = FecWriter {
+        protection: 85,
+        keyframe_protection: 255,
+    };
+    for count in [1, 2, 48, 49] {
+        let sent: Vec<Vec<u8>> = (0..count)
+            .map(|number| [&[0x80, 96, 0, number, 0, 0, 0, 9, 0, 0, 0, 7], &payload[..]].concat())
+            .collect();
+        let packets: Vec<&[u8]> = sent.iter().map(Vec::as_slice).collect();
+        let mut store = made(PacketStore::new(512 * 65_548));
+        for packet in &packets[1..] {
+            made(store.keep(packet));
+        }
+        let mut fec = made(Payloads::new(0, 0));
+        for is_keyframe in [false, true] {
+            made(writer.write(is_keyframe, &packets, &mut fec));
+            for place in 0..fec.len() {
+                let packet = FecPacket::read(fec.get(place)).expect("a packet of FEC");
+                let mut again = vec![];
+                made(packet.write(&mut again));
+                assert_eq!(again, fec.get(place));
+                let rebuilt = made(packet.rebuild(7, &store));
+                assert_eq!(rebuilt.is_some(), packet.only_missing(&store) == Some(0));
+            }
+        }
     }
 }
 
