@@ -3,8 +3,6 @@
 
   scripts/kept_ci.py              does what `rt ci` does. What it proved stays in a folder of this machine, and is not proved there again
   scripts/kept_ci.py --anew       `rt ci`: proves everything
-  scripts/kept_ci.py seed LOG     keeps what an `rt ci` of this copy has proved so far, by its output in the file LOG. Nothing else may
-                                  have written to crates/*/out
 
 What is kept has a name with a SHA-256 of all that it depends on: the sources, definitions and proofs of the crate and of all crates below
 it, its line in crates.txt, HANDLES, and the kit. So an edit of a comment proves a crate again, and all crates above it. Three things are
@@ -21,7 +19,6 @@ import importlib.machinery
 import importlib.util
 import json
 import os
-import re
 import shutil
 import subprocess
 import sys
@@ -129,34 +126,15 @@ def keep_with(rt, kept):
     rt.Crate.ci, rt.must_fail_all = ci, must_fail_all
 
 
-def seed(rt, kept, log):
-    """Keeps what a run of `rt ci` in this copy says that it proved."""
-    with open(log, encoding="utf-8", errors="replace") as file:
-        said = file.read()
-    proofs = set(re.findall(r"(?m)^rt: (\S+) proved$", said))
-    tests = set(re.findall(r"(?m)^rt: (\S+): its tests are proved$", said))
-    count = 0
-    for crate in rt.rtlib.crates_below(ROOT):
-        for what, names in ("proof", proofs), ("tests", tests):
-            if crate.name in names and (what == "tests" or os.path.isdir(f"{crate.folder}/out/rlib") or crate.is_program or crate.is_static):
-                kept.save(crate, what)
-                count += 1
-    print(f"{count} proofs kept")
-    return 0
-
-
 def main(words):
+    if words not in ([], ["--anew"]):
+        print("usage: scripts/kept_ci.py [--anew]", file=sys.stderr)
+        return 2
     os.chdir(ROOT)
-    rt, place = (None, None) if words == ["--anew"] else (loaded(), folder())
+    rt, place = (None, None) if words else (loaded(), folder())
     if rt is None or place is None:
         return subprocess.run(["rt", "ci"], check=False).returncode
-    kept = Kept(place)
-    if words[:1] == ["seed"] and len(words) == 2:
-        return seed(rt, kept, words[1])
-    if words:
-        print("usage: scripts/kept_ci.py [--anew | seed LOG]", file=sys.stderr)
-        return 2
-    keep_with(rt, kept)
+    keep_with(rt, Kept(place))
     return rt.main(["ci"])
 
 
