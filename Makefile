@@ -1,6 +1,7 @@
 # Builds, tests and installs the library for C, from c/generated, the assembly of the proved library, and three files of C in
 # c/src.
-# A C compiler and make do; on x86-64 and AArch64 Linux.
+# A C compiler and make do; on x86-64 and AArch64 Linux, and for Windows on x86-64 by mingw-w64. CMakeLists.txt builds it on macOS and with
+# other compilers of Windows.
 #
 #   make                                  the archive and the shared library, in c/out
 #   make check                            builds and runs the C tests; `make check-sanitized` with the address and
@@ -8,11 +9,16 @@
 #   make check-plus                       the test of the header for C++, as C++17 and as C++20
 #   make check-aarch64                    the C tests for AArch64, by a cross compiler and qemu (Debian: gcc-aarch64-linux-gnu,
 #                                         libc6-dev-arm64-cross, qemu-user)
+#   make check-windows                    builds the archive and the DLL for Windows, in c/out/windows, and runs the C tests by wine
+#                                         (Debian: gcc-mingw-w64-x86-64-win32, wine64)
+#   make PLAIN=1                          the same library from plain Rust (rust-c) instead of c/generated, in c/out/plain: for any
+#                                         processor that rustc knows. RUST_TARGET=TRIPLE for another one than the machine's,
+#                                         RUST_FEATURES=unproved-width for one without 64 bits. Each command above works so too
 #   make example, make loopback           builds and runs the header's example; a stream of VP8 over UDP with losses
 #   make install PREFIX=/usr DESTDIR=..   headers, both libraries, codec-payload.pc, a CMake package, documents, and manual pages
 #                                         where `make man` was called
 #   make uninstall PREFIX=..
-#   make man                              manual pages and HTML of the headers, in c/out, by doxygen
+#   make man                              a manual page for each call (Python 3), and pages and HTML of the headers (doxygen), in c/out
 #   make dist                             a tarball of all that these commands need
 #   make deb                              Debian packages, in c/out, by debhelper: the shared library, what is wanted to build
 #                                         against it and, where libpcap and libavformat are there, the recorder
@@ -34,10 +40,16 @@ CFLAGS ?= -O2 -g
 # How a program of another architecture is run.
 RUN ?=
 
-out = c/out
+# PLAIN: the calls come from rust-c, by cargo, and not from the assembly of the proved library.
+PLAIN ?=
+CARGO ?= cargo
+RUST_TARGET ?=
+RUST_FEATURES ?=
+
+out = c/out$(if $(PLAIN),/plain)
 archive = $(out)/libcodec_payload.a
 soname = libcodec_payload.so.0
-shared = $(out)/libcodec_payload.so.$(VERSION)
+shared = $(if $(windows),$(out)/codec_payload-0.dll,$(out)/libcodec_payload.so.$(VERSION))
 LIBRARY = $(archive)
 tests = $(out)/tests
 cmake = $(LIBDIR)/cmake/codec-payload
@@ -51,7 +63,7 @@ manual = $(out)/man/man3
 recorder = tools/rtp_record
 vectors = crates/payload_vectors
 shipped = Makefile include packaging $(documents) $(pages) $(pictures) $(wildcard c/src/*.c c/src/*.h c/generated/*.S) \
-    $(wildcard examples/*.c c/tests/*.c c/tests/*.cpp c/tests/*.h c/tests/*.sh c/tests/*.txt c/tests/sdp/*) \
+    $(wildcard CMakeLists.txt examples/*.c c/tests/*.c c/tests/*.cpp c/tests/*.h c/tests/*.sh c/tests/*.txt c/tests/sdp/*) \
     $(vectors)/stdin $(vectors)/stdout \
     $(addprefix $(recorder)/,Makefile README.md rtp_record.1 completion.bash) $(wildcard $(recorder)/*.c $(recorder)/*.h)
 # Without libpcap and libavformat the packages are made without the recorder.
@@ -62,15 +74,19 @@ OBJCOPY ?= $(shell $(CC) -print-prog-name=objcopy)
 ifeq ($(origin AR),default)
 AR := $(shell $(CC) -print-prog-name=ar)
 endif
-architecture := $(firstword $(subst -, ,$(shell $(CC) -dumpmachine)))
-assembly = c/generated/$(architecture)-linux.S
+machine := $(shell $(CC) -dumpmachine)
+architecture := $(firstword $(subst -, ,$(machine)))
+windows := $(findstring mingw,$(machine))
+assembly = c/generated/$(architecture)-$(if $(windows),windows,linux).S
 # Targets of indirect branches are marked, as the assembly marks its own: CET on x86-64, BTI and signed returns on AArch64.
 protection_x86_64 = -fcf-protection
 protection_aarch64 = -mbranch-protection=standard
 warnings = -pedantic -Wall -Wextra -Wconversion
 # Each function has a section of its own, as in the assembly. So a program that is linked with --gc-sections has only what it calls.
 sections = -ffunction-sections -fdata-sections
-compile = $(CC) -std=c99 $(warnings) $(CPPFLAGS) $(CFLAGS) -fPIC -fno-lto $(sections) $(protection_$(architecture)) -Iinclude
+compile = $(CC) -std=c99 $(warnings) $(CPPFLAGS) $(CFLAGS) $(if $(windows),,-fPIC) -fno-lto $(sections) $(protection_$(architecture)) -Iinclude
+
+comma := ,
 
 all: $(archive) $(shared)
 
@@ -80,31 +96,58 @@ $(out):
 	mkdir -p $@
 
 $(assembly):
-	@echo "$(assembly) is not there: x86-64 and AArch64 on Linux have files, and your compiler is for $(architecture)" >&2
+	@echo "$(assembly) is not there: your compiler is for $(machine). make PLAIN=1 builds the library from plain Rust" >&2
 	@exit 1
 
 $(out)/proved.o: $(assembly) | $(out)
-	$(CC) $(CPPFLAGS) -c -Wa,--noexecstack $< -o $@
+	$(CC) $(CPPFLAGS) -c $(if $(windows),,-Wa$(comma)--noexecstack) $< -o $@
 
 $(out)/%.o: c/src/%.c $(wildcard c/src/*.h) $(headers) | $(out)
 	$(compile) -c $< -o $@
 
-# One object, whose names for others are the calls of the header alone.
-$(out)/codec_payload.o: $(addprefix $(out)/,proved.o memory.o calls.o sdp.o)
+# The same calls from plain Rust: the one object of rust-c, without the compiler's own functions, which $(CC) has too.
+$(out)/plain.o: $(if $(PLAIN),$(shell find rust/src rust-c/src -name '*.rs')) rust/Cargo.toml rust-c/Cargo.toml | $(out)
+	CARGO_TARGET_DIR=$(abspath $(out))/cargo $(CARGO) build --release --offline --quiet --manifest-path rust-c/Cargo.toml \
+	    $(if $(RUST_TARGET),--target $(RUST_TARGET)) $(if $(RUST_FEATURES),--features $(RUST_FEATURES))
+	$(AR) p $(out)/cargo/$(RUST_TARGET)/release/libcodec_payload_c.a \
+	    $$($(AR) t $(out)/cargo/$(RUST_TARGET)/release/libcodec_payload_c.a | grep '^codec_payload_c-') >$@
+
+# One object, whose names for others are the calls of the header alone. GCC's functions of i686 for its own place are shared by all
+# objects of a program; they are hidden.
+$(out)/codec_payload.o: $(addprefix $(out)/,calls.o objects.o bindings.o sdp.o $(if $(PLAIN),plain.o,proved.o memory.o $(if $(windows),wide.o)))
 	$(CC) -r -nostdlib -o $(out)/all.o $^
-	$(OBJCOPY) --wildcard --keep-global-symbol='cpay_*' $(out)/all.o $@
+	$(OBJCOPY) --wildcard --keep-global-symbol='cpay_*' --keep-global-symbol='__x86.get_pc_thunk.*' $(out)/all.o $@
 
 $(archive): $(out)/codec_payload.o
 	rm -f $@
 	$(AR) rcs $@ $<
 
+ifneq ($(windows),)
+$(shared): $(out)/codec_payload.o packaging/codec_payload.def
+	$(CC) -shared $(CFLAGS) $(LDFLAGS) $^ -Wl,--out-implib,$(out)/libcodec_payload.dll.a -o $@
+else
 $(shared): $(out)/codec_payload.o packaging/codec_payload.map
 	$(CC) -shared -Wl,-soname,$(soname) -Wl,--version-script=packaging/codec_payload.map -Wl,-z,defs -Wl,-z,noexecstack \
 	    $(CFLAGS) $(LDFLAGS) $< -o $@
+endif
 
 # The tests and three examples: each is a program over the archive. `strict=-Werror` is how the repository builds them.
-programs = $(addprefix $(tests)/,first loopback port \
-    checks datagrams lending session history forward waiting congestion rtcp packets values vectors frames oom forward_oom beyond descriptions)
+programs = $(addprefix $(tests)/,first $(if $(windows),shared,loopback port) \
+    checks datagrams lending session history forward waiting congestion rtcp packets values bindings vectors frames oom forward_oom beyond descriptions)
+
+ifneq ($(windows),)
+# A program over the DLL, which stands beside it; and the division, which is not a call of the library.
+$(tests)/shared: c/tests/checks.c $(shared)
+	@mkdir -p $(tests)
+	$(CC) -std=c99 $(warnings) $(strict) $(CPPFLAGS) $(CFLAGS) $(LDFLAGS) -Iinclude $< $(out)/libcodec_payload.dll.a -o $@
+	cp $(shared) $(tests)
+
+$(tests)/wide: c/tests/wide.c $(out)/wide.o
+	@mkdir -p $(tests)
+	$(CC) -std=c99 $(warnings) $(strict) $(CPPFLAGS) $(CFLAGS) $(LDFLAGS) $^ -o $@
+
+programs += $(if $(PLAIN),,$(tests)/wide)
+endif
 
 vpath %.c c/tests examples
 $(tests)/%: %.c $(wildcard c/tests/*.h) $(headers) $(LIBRARY)
@@ -136,6 +179,12 @@ cross = CC=$(CROSS)gcc CXX=$(CROSS)g++ AR=$(CROSS)ar OBJCOPY=$(CROSS)objcopy out
 check-aarch64:
 	$(MAKE) check $(cross) RUN="qemu-aarch64 -L /usr/aarch64-linux-gnu"
 
+check-windows:
+	$(MAKE) all check CC=x86_64-w64-mingw32-gcc AR=x86_64-w64-mingw32-ar OBJCOPY=x86_64-w64-mingw32-objcopy out=c/out/windows RUN="$(WINE)"
+
+# What runs programs of Windows. Debian's wine64 has it outside of the path.
+WINE ?= env WINEDEBUG=-all $(firstword $(wildcard /usr/lib/wine/wine64) wine)
+
 example: $(tests)/first
 	$(RUN) $<
 
@@ -144,11 +193,12 @@ loopback: $(tests)/loopback
 
 man: $(manual)/codec_payload.h.3
 
-$(manual)/codec_payload.h.3: include/codec_payload.h include/codec_payload_media.h include/codec_payload_sdp.h packaging/Doxyfile
+$(manual)/codec_payload.h.3: include/codec_payload.h include/codec_payload_media.h include/codec_payload_sdp.h include/codec_payload_bindings.h packaging/Doxyfile packaging/manual.py
 	rm -rf $(out)/man $(out)/html
 	mkdir -p $(out)
 	(cat packaging/Doxyfile && echo OUTPUT_DIRECTORY = $(out)) | doxygen -
-	find $(manual) ! -type d ! -name 'cpay_*' ! -name codec_payload.h.3 ! -name codec_payload_media.h.3 ! -name codec_payload_sdp.h.3 -delete
+	find $(manual) ! -type d ! -name 'codec_payload*.h.3' -delete
+	packaging/manual.py $(manual)
 
 install: all
 	$(INSTALL) -d $(DESTDIR)$(INCLUDEDIR) $(DESTDIR)$(LIBDIR)/pkgconfig $(DESTDIR)$(cmake) $(DESTDIR)$(DOCDIR)
@@ -175,7 +225,8 @@ uninstall:
 	    $(DESTDIR)$(LIBDIR)/$(soname) $(DESTDIR)$(LIBDIR)/$(notdir $(shared)) $(DESTDIR)$(LIBDIR)/pkgconfig/codec-payload.pc
 	rm -rf $(DESTDIR)$(cmake) $(DESTDIR)$(DOCDIR)
 	rm -f $(DESTDIR)$(MANDIR)/man3/cpay_* $(DESTDIR)$(MANDIR)/man3/codec_payload.h.3 \
-	    $(DESTDIR)$(MANDIR)/man3/codec_payload_media.h.3 $(DESTDIR)$(MANDIR)/man3/codec_payload_sdp.h.3
+	    $(DESTDIR)$(MANDIR)/man3/codec_payload_media.h.3 $(DESTDIR)$(MANDIR)/man3/codec_payload_sdp.h.3 \
+	    $(DESTDIR)$(MANDIR)/man3/codec_payload_bindings.h.3
 
 dist: | $(out)
 	tar -czf $(out)/$(name).tar.gz --transform 's|^|$(name)/|' $(shipped)
@@ -203,4 +254,4 @@ check-install: all
 clean:
 	rm -rf $(out)
 
-.PHONY: all shared check check-plus check-sanitized check-aarch64 example loopback man install uninstall dist deb deb-aarch64 check-install clean
+.PHONY: all shared check check-plus check-sanitized check-aarch64 check-windows example loopback man install uninstall dist deb deb-aarch64 check-install clean

@@ -3,14 +3,20 @@
 
   c/check_header.py            compares all that stands below
   c/check_header.py --calls    prints c/src/calls.c, as the header says
+  c/check_header.py --bindings prints c/src/objects.c, the calls *_create and *_destroy of include/codec_payload_bindings.h
+  c/check_header.py --names    writes packaging/codec_payload.def and packaging/debian/libcodec-payload0.symbols, the calls by their names
 
 The header is written by hand. This script reads both and compares every function: its name, its result, and the name and type of
 each parameter; every struct that crosses: its fields in order with their types; and the numbers of the statuses and of the codecs.
 In C each type has its own struct around a handle, so that the compiler distinguishes them. The example in the header, and in
 docs/use/C.md, is the text of examples/first.c. The last line says how many functions and structs are the same; the status is 0 if all are.
 
+packaging/codec_payload.map has each call of the headers, below the version of the release that has it first: a release that adds
+calls adds a version to the file. The two other lists of names come from it. All three are compared.
+
 c/src/calls.c, which accepts NULL with a length of 0, is the output of `check_header.py --calls`, and is compared too.
-c/tests/beyond.c calls each function that takes memory.
+c/tests/beyond.c calls each function that takes memory. For each *_new there is a *_create with the same parameters, and a *_destroy. The
+header for C++ has each call on a handle.
 """
 import os
 import re
@@ -43,6 +49,12 @@ EXPORT = re.compile(
 )
 
 
+OBJECTS_BEGIN = """\
+/* Objects whose handles have memory of their own: codec_payload_bindings.h. Written by c/check_header.py --bindings. */
+#include "codec_payload_bindings.h"
+
+#include <stdlib.h>
+"""
 CALLS_BEGIN = """\
 /* The calls of codec_payload.h over the proved calls, which accept a handle of any type and no NULL. Here NULL with a length of 0
  * becomes a valid pointer; NULL with another length is refused. Written by c/check_header.py --calls. */
@@ -226,6 +238,38 @@ def calls(functions):
     return "\n".join(text)
 
 
+def created():
+    """For each type of handle: its name, the declaration of *_create as the header has it, and the name of the handle."""
+    for kind in KINDS:
+        _, params = header()[0][f"{kind}_new"]
+        name, start = kind.split("_")[-1], f"cpay_status {kind}_create("
+        rest = [f"{of} {one}".replace("* ", "*") for of, one in params[1:]]
+        yield kind, name, start, [f"{kind} **{name}", *rest], [one for _, one in params[1:]]
+
+
+def objects():
+    """The text of c/src/objects.c."""
+    text = [OBJECTS_BEGIN]
+    for kind, name, start, parts, given in created():
+        call = f"    const cpay_status status = {kind}_new("
+        text.append("\n".join([
+            wrapped(start, parts, ") {", len(start)), f"    {kind} *made = malloc(sizeof *made);", "    if (!made) return CPAY_OUT_OF_MEMORY;",
+            f"    *made = ({kind})CPAY_INIT;", wrapped(call, ["made", *given], ");", len(call)), f"    if (status) free(made);\n    else *{name} = made;",
+            "    return status;\n}\n", f"void {kind}_destroy({kind} *{name}) {{\n    {kind}_free({name});\n    free({name});\n}}\n"]))
+    return "\n".join(text)
+
+
+def wrong_bindings():
+    """What the headers for other languages and for C++ lack."""
+    text, plus = " ".join(read("include/codec_payload_bindings.h").split()), read("include/codec_payload.hpp")
+    for kind, name, start, parts, _ in created():
+        if f"CPAY_CHECKED {start}{', '.join(parts)});" not in text or f"void {kind}_destroy({kind} *{name});" not in text:
+            yield f"include/codec_payload_bindings.h: no {kind}_create and {kind}_destroy as {kind}_new asks for"
+    for call, (_, params) in header()[0].items():
+        if params and params[0][0].removesuffix(" *") in KINDS and not re.search(rf"\b{call}\b", plus):
+            yield f"include/codec_payload.hpp: no {call}"
+
+
 def taking_memory():
     """The functions of the header whose comment says [m]."""
     marked = False
@@ -236,6 +280,40 @@ def taking_memory():
         elif marked and name:
             yield name[1]
             marked = False
+
+
+def exported():
+    """The calls that the headers declare, those for session descriptions among them."""
+    text = "".join(read(f"include/{name}.h") for name in ("codec_payload", "codec_payload_media", "codec_payload_sdp", "codec_payload_bindings"))
+    text = re.sub(r"#if 0\n.*?#endif\n", "", re.sub(r"/\*.*?\*/", "", text, flags=re.S), flags=re.S)
+    return sorted(re.findall(r"^(?:CPAY_CHECKED )?(?:const )?\w+ \*?(cpay_\w+)\([^)]*\);", text, re.M))
+
+
+def versions():
+    """The symbol versions of packaging/codec_payload.map, oldest first: name, release, and its calls."""
+    found = []
+    for name, body in re.findall(r"^(\w[\w.]*) \{(.*?)\n\}", read("packaging/codec_payload.map"), re.M | re.S):
+        release = "0.1.0" if name == "CODEC_PAYLOAD_0" else name.removeprefix("CODEC_PAYLOAD_")
+        found.append((name, release, re.findall(r"^\s+(cpay_\w+);", body, re.M)))
+    return found
+
+
+def names():
+    """The text of each list of names that is made from packaging/codec_payload.map, by its path."""
+    calls_of = [(version, release, name) for version, release, found in versions() for name in found]
+    definition = "".join(f"    {name}\n" for name in sorted(name for _, _, name in calls_of))
+    symbols = "".join(f" {name}@{version} {release}\n" for version, release, name in sorted(calls_of, key=lambda it: it[2]))
+    marks = "".join(f" {version}@{version} {release}\n" for version, release, _ in versions())
+    return {"packaging/codec_payload.def": f"LIBRARY codec_payload-0\nEXPORTS\n{definition}",
+            "packaging/debian/libcodec-payload0.symbols": f"libcodec_payload.so.0 libcodec-payload0 #MINVER#\n{marks}{symbols}"}
+
+
+def wrong_names():
+    """What is wrong with the lists of names."""
+    listed = sorted(name for _, _, found in versions() for name in found)
+    wrong = [f"packaging/codec_payload.map: {name} stands there twice" for name in {it for it in listed if listed.count(it) > 1}]
+    wrong += [f"packaging/codec_payload.map: {name} is there or in the headers, and not in both" for name in set(listed) ^ set(exported())]
+    return wrong + [f"{path} is not what check_header.py --names writes" for path, text in names().items() if read(path) != text]
 
 
 def too_wide():
@@ -249,6 +327,14 @@ def too_wide():
 def main():
     if sys.argv[1:] == ["--calls"]:
         print(calls(header()[0]), end="")
+        return 0
+    if sys.argv[1:] == ["--bindings"]:
+        print(objects(), end="")
+        return 0
+    if sys.argv[1:] == ["--names"]:
+        for path, text in names().items():
+            with open(f"{ROOT}/{path}", "w", encoding="utf-8") as it:
+                it.write(text)
         return 0
     functions, structs, statuses, codecs = rattle()
     as_written, written_structs, numbers = header()
@@ -269,6 +355,9 @@ def main():
         wrong.append("c/src/calls.c is not what check_header.py --calls prints")
     wrong += [f"c/tests/beyond.c does not call {name}" for name in taking_memory() if f"{name}(" not in read("c/tests/beyond.c")]
     wrong += too_wide()
+    wrong += [*wrong_names(), *wrong_bindings()]
+    if read("c/src/objects.c") != objects():
+        wrong.append("c/src/objects.c is not what check_header.py --bindings prints")
     if not functions or not structs:
         wrong.append("no function, or no struct, was found")
     counts = f"{len(functions)} functions and {len(structs)} structs"

@@ -481,6 +481,7 @@ typedef struct {
     bool waiting; /**< a unit waits for a larger output buffer */
 } cpay_buffer_counts_info;
 
+/** Reports how full a buffer is. Allocates nothing. */
 CPAY_CHECKED cpay_status cpay_buffer_counts(cpay_buffer *buffer, cpay_buffer_counts_info *counts);
 
 /** Changes `hold_back` of a running buffer: a complete frame after missing packets waits until more than `hold_back` complete
@@ -599,11 +600,12 @@ CPAY_CHECKED cpay_status cpay_sender_set_format(cpay_sender *sender, const cpay_
 typedef struct {
     uint32_t packets;     /**< packets sent, modulo 2^32 */
     uint32_t octets;      /**< payload bytes sent, modulo 2^32 */
-    uint32_t rtp_time;    /**< RTP time of the last frame */
+    uint32_t rtp_time;    /**< with has_rtp_time: RTP time of the last frame; otherwise 0 */
     uint16_t next_number; /**< the sequence number of the next packet */
     bool has_rtp_time;    /**< at least one frame was sent */
 } cpay_sender_counts_info;
 
+/** Reports the counters of a sender. Allocates nothing. */
 CPAY_CHECKED cpay_status cpay_sender_counts(cpay_sender *sender, cpay_sender_counts_info *counts);
 
 /** The fields of a sender report (RFC 3550, section 6.4.1), except its NTP time, which your clock has. */
@@ -948,8 +950,11 @@ typedef enum {
  * stream arrives for two seconds (by `tick_rate`), packets of other SSRCs wait again, and two of them choose again, as after
  * cpay_receiver_restart.
  *
- * CPAY_OUT_OF_MEMORY: nothing changed, and you may pass the same datagram again. Exception: a RED packet was stored, but memory
- * ran out for a redundant block. Passed again, it is a duplicate, and its redundant blocks are stored. [m] */
+ * CPAY_OUT_OF_MEMORY: nothing changed, and you may pass the same datagram again. Two exceptions:
+ * - A RED packet was stored, but memory ran out for a redundant block. Passed again, it is a duplicate, and its redundant blocks
+ *   are stored.
+ * - This packet chooses the stream, and memory ran out for it alone. The waiting packet was received, and the stream is chosen. If
+ *   memory runs out for the waiting packet, nothing changed, and a stream that was silent is still the chosen one. [m] */
 CPAY_CHECKED cpay_status cpay_receiver_receive(cpay_receiver *receiver, uint64_t now, const uint8_t *datagram,
                                                size_t datagram_len, cpay_outcome *outcome);
 
@@ -1064,11 +1069,12 @@ typedef struct {
     uint64_t undecodable; /**< units of video that a decoder cannot show; they are in `units`, also if they were dropped */
     uint64_t too_large;   /**< units above `max_unit`; they are not in `units` */
     size_t held;   /**< packets held now */
-    uint32_t ssrc; /**< with has_ssrc: SSRC of the stream */
+    uint32_t ssrc; /**< with has_ssrc: SSRC of the stream; otherwise 0 */
     bool has_ssrc;
     bool waiting; /**< a unit waits for a larger output buffer; its packets are in `released` */
 } cpay_receiver_counts_info;
 
+/** Reports the counters of a receiver. Allocates nothing. */
 CPAY_CHECKED cpay_status cpay_receiver_counts(cpay_receiver *receiver, cpay_receiver_counts_info *counts);
 
 /* ---- An adaptive wait: a limit of waiting that follows how late missing packets arrive ---- */
@@ -1304,6 +1310,10 @@ typedef struct {
                                      6.1); else it has reduced size (RFC 5506), which the other side has to accept */
     bool has_longest_wait;      /**< waiting follows the measured round trip */
     bool has_report_interval;   /**< the session sends receiver reports */
+    bool extended;              /**< reports also measure the round trip (RFC 3611, sections 4.4 and 4.5), in 20 to 44 bytes: the
+                                     answers count for all streams, in place of the answers to requests, until three reports in a
+                                     row have none. The session answers the reference times of others too. Set by
+                                     cpay_session_settings_init; in a struct that you fill yourself it is off */
 } cpay_session_feedback;
 
 /** How the arrivals of packets are reported to the sender, for its congestion control: transport-wide feedback
@@ -1548,6 +1558,7 @@ typedef struct {
     size_t streams;        /**< streams now, announced or not */
 } cpay_session_counts_info;
 
+/** Reports the counters of a session. Allocates nothing. */
 CPAY_CHECKED cpay_status cpay_session_counts(cpay_session *session, cpay_session_counts_info *counts);
 
 /** The stage of a stream. */
@@ -1721,6 +1732,13 @@ CPAY_CHECKED cpay_status cpay_read_report(const uint8_t *rtcp, size_t rtcp_len, 
 CPAY_CHECKED cpay_status cpay_read_report_block(const uint8_t *rtcp, size_t rtcp_len, bool full, size_t index, size_t place,
                                                 cpay_report_block_info *block);
 
+/** Copies the canonical name (CNAME) that one datagram of RTCP gives the source with this SSRC to the output buffer, and its size
+ * to *size: at most 255 bytes of UTF-8, which is not checked (RFC 3550, section 6.5.1). Streams of one participant have the same
+ * name. `full` is as for cpay_read_requests. CPAY_NONE: the datagram does not name this source. CPAY_TOO_SMALL: *size is written.
+ * CPAY_RTCP_HEADER_TOO_SHORT to CPAY_RTCP_FIR_LENGTH: not a compound RTCP packet. Does not allocate. */
+CPAY_CHECKED cpay_status cpay_read_cname(const uint8_t *rtcp, size_t rtcp_len, bool full, uint32_t ssrc, uint8_t *bytes,
+                                         size_t bytes_len, size_t *size);
+
 /** Writes a sender report to the output buffer, and its size to *size: 28 bytes, and 24 for each of its blocks, at most 31. The
  * fields are those of cpay_sender_report or cpay_forwarder_report, and `ntp_time` is the same moment: seconds since 1900 in the
  * upper 32 bits, fractions of a second in the lower 32 bits. It has no padding: packets that you write one after another are a
@@ -1743,6 +1761,18 @@ CPAY_CHECKED cpay_status cpay_write_cname(uint32_t ssrc, const uint8_t *cname, s
  * and its size to *size: 12 bytes. With a session call cpay_session_request_keyframe instead. CPAY_TOO_SMALL: *size is written. [m]
  * */
 CPAY_CHECKED cpay_status cpay_write_pli(uint32_t sender_ssrc, uint32_t media_ssrc, uint8_t *bytes, size_t bytes_len, size_t *size);
+
+/** Writes a FIR, which asks the sender of the stream `media_ssrc` for a keyframe (RFC 5104, section 4.3.1), to the output buffer,
+ * and its size to *size: 20 bytes. `command` counts the requests to this stream, modulo 256; a request that you repeat keeps its
+ * number. CPAY_TOO_SMALL: *size is written. [m] */
+CPAY_CHECKED cpay_status cpay_write_fir(uint32_t sender_ssrc, uint32_t media_ssrc, uint8_t command, uint8_t *bytes,
+                                        size_t bytes_len, size_t *size);
+
+/** Writes a BYE, which says that a source leaves (RFC 3550, section 6.6), to the output buffer, and its size to *size. It has a
+ * reason if `reason` has bytes: a text in UTF-8, at most 255 bytes. CPAY_TOO_SMALL: *size is written. CPAY_INVALID: the reason has
+ * more than 255 bytes. [m] */
+CPAY_CHECKED cpay_status cpay_write_bye(uint32_t ssrc, const uint8_t *reason, size_t reason_len, uint8_t *bytes, size_t bytes_len,
+                                        size_t *size);
 
 /* ---- A depacketizer alone, for callers that order packets themselves ---- */
 

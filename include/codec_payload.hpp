@@ -301,6 +301,15 @@ public:
     return cpay_write_cname(ssrc, cname.data(), cname.size(), to.data(), to.size(), &size);
 }
 
+/** A FIR: see cpay_write_fir. */
+[[nodiscard]] inline cpay_status write_fir(std::uint32_t sender_ssrc, std::uint32_t media_ssrc, std::uint8_t command, room to,
+                                           std::size_t &size) noexcept {
+    return cpay_write_fir(sender_ssrc, media_ssrc, command, to.data(), to.size(), &size);
+}
+/** A BYE, with a reason if it has bytes: see cpay_write_bye. */
+[[nodiscard]] inline cpay_status write_bye(std::uint32_t ssrc, bytes reason, room to, std::size_t &size) noexcept {
+    return cpay_write_bye(ssrc, reason.data(), reason.size(), to.data(), to.size(), &size);
+}
 /** A PLI: see cpay_write_pli. */
 [[nodiscard]] inline cpay_status write_pli(std::uint32_t sender_ssrc, std::uint32_t media_ssrc, room to,
                                            std::size_t &size) noexcept {
@@ -394,6 +403,12 @@ public:
     [[nodiscard]] cpay_status receive(std::uint64_t now, bytes datagram, cpay_arrival &arrival) noexcept {
         return cpay_session_receive(get(), now, datagram.data(), datagram.size(), &arrival);
     }
+    /** `micros` is the time of arrival in microseconds, for feedback of the transport: see cpay_session_receive_at. */
+    [[nodiscard]] cpay_status receive_at(std::uint64_t now, std::uint64_t micros, bytes datagram, cpay_arrival &arrival) noexcept {
+        return cpay_session_receive_at(get(), now, micros, datagram.data(), datagram.size(), &arrival);
+    }
+    /** Forgets which packets of the transport arrived. */
+    [[nodiscard]] cpay_status restart_transport() noexcept { return cpay_session_restart_transport(get()); }
     /** `event.data` lends the bytes of the event until the next poll: see cpay_session_poll. */
     [[nodiscard]] cpay_status poll(std::uint64_t now, cpay_event &event) noexcept {
         return cpay_session_poll(get(), now, &event);

@@ -46,11 +46,17 @@ CPAY_CHECKED cpay_status cpay_tele_write(const cpay_tele_event *event, uint32_t 
 
 /* ---- Questions about one payload ---- */
 
+/** Returns whether a keyframe starts in a payload of VP8. */
 bool cpay_vp8_is_keyframe(const uint8_t *payload, size_t payload_len);
+
+/** Returns whether a payload of VP9 says that its frame depends on no other frame. */
 bool cpay_vp9_is_keyframe(const uint8_t *payload, size_t payload_len);
-bool cpay_vp9_frame_is_keyframe(const uint8_t *frame, size_t frame_len); /**< for a whole frame, without a descriptor */
-bool cpay_av1_is_keyframe(const uint8_t *payload, size_t payload_len);   /**< whether a coded video sequence starts in the
-                                                                              payload */
+
+/** Returns whether a whole frame of VP9, without a payload descriptor, is a keyframe. */
+bool cpay_vp9_frame_is_keyframe(const uint8_t *frame, size_t frame_len);
+
+/** Returns whether a new coded video sequence starts in a payload of AV1. */
+bool cpay_av1_is_keyframe(const uint8_t *payload, size_t payload_len);
 
 /** Reports whether a payload begins a unit, or ends one if its RTP header has this marker. CPAY_INVALID: unsupported codec. */
 CPAY_CHECKED cpay_status cpay_is_head(cpay_codec codec, const uint8_t *payload, size_t payload_len, bool *is_head);

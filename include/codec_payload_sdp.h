@@ -162,6 +162,9 @@ typedef struct {
     uint8_t send_time_id;             /**< abs-send-time */
     uint8_t offset_id;                /**< transmission time offset (RFC 5450) */
     uint8_t dependency_descriptor_id; /**< dependency descriptor (AV1 RTP specification, appendix A) */
+    bool receiver_rtt;                /**< `a=rtcp-xr` with `rcvr-rtt`, for all or for senders (RFC 3611, section 5.1), in the
+                                           section or the session: extended reports measure the round trip. Repeat the line in
+                                           an answer; `extended` of cpay_session_feedback is set by default */
     cpay_sdp_text type;               /**< of media, such as `audio`: the first word of the `m=` line, which an answer repeats */
     cpay_sdp_text protocol;           /**< the third word of the `m=` line, such as `UDP/TLS/RTP/SAVPF` */
     cpay_sdp_text mid;                /**< `a=mid`: the name of the section (RFC 5888, section 4) */

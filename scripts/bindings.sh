@@ -40,7 +40,7 @@ step() {
     }
 }
 
-# One archive of the library as rt builds it, of c/src/calls.c over it, of c/src/sdp.c, and of the kit's three functions that call
+# One archive of the library as rt builds it, of c/src/calls.c over it, of the other C in c/src but memory.c, and of the kit's three functions that call
 # malloc, realloc and free. It exports only the calls of the header: the proved calls are named proved_* and become local.
 build_proved() {
     kit=$(dirname "$(rt doc)")
@@ -50,12 +50,13 @@ build_proved() {
         fail "the library is not proved"
     }
     rm -f "$out/proved/libcodec_payload.a"
-    "$compiler" -std=c99 $warnings -O2 -fPIC -I"$root/include" -c "$root/c/src/calls.c" -o "$work/calls.o" &&
-        "$compiler" -std=c99 $warnings -O2 -fPIC -I"$root/include" -c "$root/c/src/sdp.c" -o "$work/sdp.o" &&
-        (cd "$work" && cp "$root/crates/codec_payload_c/out/libcodec_payload_c.a" "$kit/c/liblibc_c.a" . &&
+    for name in calls objects bindings sdp; do
+        "$compiler" -std=c99 $warnings -O2 -fPIC -I"$root/include" -c "$root/c/src/$name.c" -o "$work/$name.o" || fail "$name.c is not compiled"
+    done
+    (cd "$work" && cp "$root/crates/codec_payload_c/out/libcodec_payload_c.a" "$kit/c/liblibc_c.a" . &&
             nm --defined-only --extern-only libcodec_payload_c.a | sed -n 's/.* \(cpay_[a-z0-9_]*\)$/\1 proved_\1/p' >names &&
             objcopy --redefine-syms=names libcodec_payload_c.a &&
-            printf 'CREATE all.a\nADDLIB libcodec_payload_c.a\nADDLIB liblibc_c.a\nADDMOD calls.o\nADDMOD sdp.o\nSAVE\nEND\n' | ar -M &&
+            printf 'CREATE all.a\nADDLIB libcodec_payload_c.a\nADDLIB liblibc_c.a\nADDMOD calls.o\nADDMOD objects.o\nADDMOD bindings.o\nADDMOD sdp.o\nSAVE\nEND\n' | ar -M &&
             ld -r --whole-archive all.a -o all.o && objcopy --wildcard --keep-global-symbol='cpay_*' all.o codec_payload.o &&
             ar rcs "$out/proved/libcodec_payload.a" codec_payload.o) || fail "the archive is not made"
 }

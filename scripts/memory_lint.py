@@ -24,7 +24,7 @@ from rattle_source import LITERAL
 ROOT = os.path.dirname(os.path.dirname(os.path.realpath(__file__)))
 NAME = re.compile(r"\b(?:AllocError|OutOfMemory|BlocksOutOfMemory|OUT_OF_MEMORY)\b")
 # What says by a bool that memory ran out. Each is false or true only after a call that failed; a new one is a reason to look.
-CARRIERS = ["!taken.whole", "is_no_memory(", "is_out_of_memory(", "settle_on(", "settle_first(", "has_memory", "is_memory("]
+CARRIERS = ["!taken.whole", "is_no_memory(", "is_out_of_memory(", "settle_on(", "settle_first(", "settle_anew(", "has_memory", "is_memory("]
 OPEN, CLOSE = "([{", ")]}"
 # Bodies of a function, and whether each makes out of memory.
 PLANTS = [

@@ -218,7 +218,7 @@ LAYERS = (
     (("all streams of a port", "session session_stream/session_requests session_formats"),),
     (("receiving", "receiver datagrams jitter/numbers keyframes references/buffer contiguity metadata/queue index"),
      ("feedback", "feedback feedback_requests feedback_transport/feedback_wait feedback_congestion/feedback_ccfb feedback_xr"),
-     ("sending, and what viewers see", "payloader sending sending_red/sending_history sending_forward/feedback_freezes bandwidth/bandwidth_pacer bandwidth_layers/bandwidth_estimate/bandwidth_estimator")),
+     ("sending, and what viewers see", "payloader sending sending_red/sending_history sending_forward/feedback_freezes bandwidth/bandwidth_pacer bandwidth_layers/bandwidth_estimate/bandwidth_estimator bandwidth_path")),
     (("payload formats", "codec audio vp8 vp9 av1"), ("repetition", "red fec"), ("what frames say", "media vpx layers edges/descriptor syntax"), ("packets", "rtp rtcp")),
     (("what all share", "base"),),
 )

@@ -17,7 +17,7 @@
 # - No pop of a buffer takes more than 2 microseconds if packets that are no frame lie before the next frame (tools/speed).
 # - With valgrind: no datagram of a peer that chooses its numbers takes more instructions than its bound (tools/measure/rust_speed.py).
 # - The programs over lines, tools/lines: rustfmt and clippy have nothing to say, and each test vector gets its answer
-#   (tests/vectors/process.py).
+#   (tests/vectors/process.py). In rust-c rustfmt and clippy have nothing to say.
 # - With clang's libFuzzer: two seconds of each fuzz target (tools/fuzz/fuzz.sh). With Debian's packages of crates: rust-extras/test.sh.
 #
 # The last line says what passed; the status is 0 if all did.
@@ -90,8 +90,10 @@ speed() {
     ! command -v valgrind >/dev/null || step "$root/tools/measure/rust_speed.py" --hostile
 }
 
-# The programs over lines.
+# The programs over lines, and the calls of C over the crate, whose tests scripts/targets.sh runs.
 lines() {
+    step cargo fmt --check --manifest-path "$root/rust-c/Cargo.toml"
+    step cargo clippy --quiet --manifest-path "$root/rust-c/Cargo.toml" -- -D warnings
     step cargo fmt --check --manifest-path "$root/tools/lines/Cargo.toml"
     step cargo clippy --quiet --all-targets --manifest-path "$root/tools/lines/Cargo.toml" -- -D warnings
     step "$root/tests/vectors/process.py"

@@ -1,10 +1,11 @@
 #!/bin/sh
-# Tests rust/ with rustc 1.85, the oldest that rust/Cargo.toml allows, and on processors other than x86-64.
+# Tests rust/ and rust-c/ with rustc 1.85, the oldest that rust/Cargo.toml allows, and on processors other than x86-64.
 #
-#   scripts/targets.sh         all tests with rustc 1.85 on x86-64 and on i686; on AArch64, armv7 and s390x (big endian), by qemu, the
-#                              tests of $short
+#   scripts/targets.sh         all tests of Rust with rustc 1.85 on x86-64 and on i686; on AArch64, armv7 and s390x (big endian), by
+#                              qemu, the tests of $short; then all C tests over plain Rust (make PLAIN=1 check) on each
 #   scripts/targets.sh all     all tests on each
 #   scripts/targets.sh NAME..  all tests on these: x86-64, i686, aarch64, armv7, s390x
+#   scripts/targets.sh c NAME..  the C tests alone, on these or on each
 #
 # The compiler and its libraries are those of Debian 12 (rustc-web 1.85). They are unpacked below rust/target, 0.9 GB, and the
 # machine's own compiler and list of packages stay as they are. All but x86-64 need Debian's cross compilers as linkers, and
@@ -57,26 +58,30 @@ needs() {
         { [ "$(id -u)" -eq 0 ] && DEBIAN_FRONTEND=noninteractive apt-get install -qq -y --no-install-recommends "$@" >/dev/null 2>&1; }
 }
 
-# The target of rustc for one of the names above, what links for it, what runs its programs, and the features.
+# The target of rustc for one of the names above, what links for it, what runs its programs (`loader` those of C), and the features.
 describe() {
     features=""
     runner="env"
     case $1 in
-    x86-64) target=x86_64-unknown-linux-gnu linker=cc ;;
+    x86-64) target=x86_64-unknown-linux-gnu linker=cc loader= ;;
     i686)
         target=i686-unknown-linux-gnu linker=i686-linux-gnu-gcc features=unproved-width
+        loader="/usr/i686-linux-gnu/lib/ld-linux.so.2 --library-path /usr/i686-linux-gnu/lib"
         needs $linker /usr/i686-linux-gnu/lib/libc.a gcc-i686-linux-gnu libc6-dev-i386-cross
         ;;
     aarch64)
         target=aarch64-unknown-linux-gnu linker=aarch64-linux-gnu-gcc runner=qemu-aarch64
+        loader="qemu-aarch64 -L /usr/aarch64-linux-gnu"
         needs $linker /usr/aarch64-linux-gnu/lib/libc.a gcc-aarch64-linux-gnu libc6-dev-arm64-cross && needs $runner / qemu-user
         ;;
     armv7)
         target=armv7-unknown-linux-gnueabihf linker=arm-linux-gnueabihf-gcc runner=qemu-arm features=unproved-width
+        loader="qemu-arm -L /usr/arm-linux-gnueabihf"
         needs $linker /usr/arm-linux-gnueabihf/lib/libc.a gcc-arm-linux-gnueabihf libc6-dev-armhf-cross && needs $runner / qemu-user
         ;;
     s390x)
         target=s390x-unknown-linux-gnu linker=s390x-linux-gnu-gcc runner=qemu-s390x
+        loader="qemu-s390x -L /usr/s390x-linux-gnu"
         needs $linker /usr/s390x-linux-gnu/lib/libc.a gcc-s390x-linux-gnu libc6-dev-s390x-cross && needs $runner / qemu-user
         ;;
     *)
@@ -102,6 +107,23 @@ tested() {
     sed -n 's/^test result: ok. \([0-9]*\) passed.*/\1/p' "$work/$name" | awk '{ sum += $1 } END { print sum }'
 }
 
+# checked NAME: runs the C tests over plain Rust on that target, and prints how many programs passed
+checked() {
+    make -C "$root" --no-print-directory PLAIN=1 check "out=c/out/plain-$1" "CC=$linker" "RUN=$loader" "RUST_TARGET=$target" \
+        "RUST_FEATURES=$features" "CARGO=env LD_LIBRARY_PATH=$sysroot/lib/x86_64-linux-gnu RUSTC=$sysroot/bin/rustc $sysroot/bin/cargo" \
+        >"$work/c-$1" 2>&1 || {
+        cat "$work/c-$1" >&2
+        echo "targets: C on $1 failed" >&2
+        exit 1
+    }
+    sed -n 's/^check: \([0-9]* programs\), all passed/\1 of C/p' "$work/c-$1"
+}
+
+of_c=
+[ "${1:-}" != c ] || {
+    of_c=yes
+    shift
+}
 chosen=${*:-all}
 [ "$chosen" != all ] || chosen="x86-64 i686 aarch64 armv7 s390x"
 work=$(mktemp -d)
@@ -124,6 +146,7 @@ for name in $chosen; do
     *) selection="--lib --tests" ;; # the examples are built on x86-64 alone
     esac
     # shellcheck disable=SC2086
-    result="$result; $name $(tested "$name" $selection) tests"
+    [ -n "$of_c" ] || result="$result; $name $(tested "$name" $selection) tests"
+    result="$result; $name $(checked "$name")"
 done
 echo "targets: rustc 1.85${result}"

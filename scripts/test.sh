@@ -11,7 +11,7 @@
 # not tested. Without GStreamer's headers and plugins tools/gstreamer is not tested. Without ffmpeg the headers of frames are not
 # compared with other readers; without Debian's packages of crates and
 # the runtime of libFuzzer, rust-extras and tools/fuzz are not tested. Without Go, pion's interceptor and tshark no peer reads the
-# packets of transport-wide feedback again. scripts/python.sh and scripts/targets.sh say what they need, and skip what lacks it. tools/live_server is built only if its libraries are installed. Chromium is never
+# packets of transport-wide feedback again. scripts/python.sh, scripts/systems.sh and scripts/targets.sh say what they need, and skip what lacks it. tools/live_server is built only if its libraries are installed. Chromium is never
 # installed; without it no browser sends to a session or to live_server. The last line is `N passed, N failed`; the status is 0 if
 # nothing failed.
 set -u
@@ -149,6 +149,7 @@ fi
 runs tests/vectors/process.py --proved
 runs scripts/refuse.sh
 runs scripts/bindings.sh
+runs scripts/systems.sh
 runs scripts/documents.py
 runs scripts/rust.sh times
 if pkg-config --exists libpcap libavformat libavcodec libavutil && command -v ffmpeg >/dev/null; then

@@ -102,7 +102,7 @@ FILES = {
         'parts': [('the log', ['RunLog', 'IsLog'])],
     },
     'STREAM': {
-        'statements': [(SESSION, 'Lives', 'IsAlone', 'run_new_session')],
+        'statements': [(SESSION, 'Lives', 'IsAlone', 'run_new_session'), (SESSION, 'Endings', 'FinishesHaveCauses', 'finishes_have_causes')],
         'stops': {
             RECEIVES: PASSED_ON, ENDS: PASSED_ON,
             POPS: PASSED_ON + ' What the pop answers, and that the session passes it on, is shown (`answer_of`, `NamesFault`, `released_by`).',
@@ -119,12 +119,12 @@ FILES = {
             'with which the stream began, with the settings of its format and its SSRC. From there on the receiver made the calls `own`, one after another, and nothing else changed '
             'it (`alone`). `own` consists of a part for each call of the session (`projects`). What answers show of the stream is in it exactly (`shows`): the datagrams that '
             'answers give to its SSRC and payload type, and the pops whose events are its units, refused frames or units that are too large. The rest is what `IsMadeAs` allows: at '
-            'most one pop, one end and one pair for each call. Its events are in order, and none is an end (`tells`).',
+            'most one pop, one end, one report and one pair for each call. Its events are in order, and none is an end (`tells`). The second clause says that the receiver was finished at '
+            'most once, and only after a call that lets the stream end.',
             'The call returned Ok: the settings have no fault, and there was memory for the session and for the list of answers. Memory may run out in each call of the session.',
-            'Which streams begin, or that a stream gets the datagrams that are meant for it (SESSIONS.md). That a receiver releases anything: DATAGRAMS.txt. `IsMadeAs` is wider than '
-            'what a session does. A datagram of another stream may set the SSRC of retransmissions to none, or to its own SSRC under any payload type. Any poll may end the receiver, '
-            'and report any number of times. A datagram that the stream takes may set `max_wait` to any value. Datagrams for which memory ran out may come to the receiver, which they '
-            'leave as it is. The clause `runs` of the function is exact.',
+            'Which streams begin, or that a stream gets the datagrams that are meant for it (SESSIONS.md). That a receiver releases anything: DATAGRAMS.txt. Which `max_wait` within its '
+            'range a datagram sets, and which streams a report is about: the clause `runs` of the function is exact. Datagrams for which memory ran out may come to the receiver, which they '
+            'leave as it is.',
             'The clause, `IsAlone`, and each field of it in turn. Part 2 is what a call of the session makes of a receiver, part 3 the new receiver, part 4 the order of events.'),
         'parts': [('what a call of the session makes of a receiver', ['Projects', 'shown', 'shown_of', 'StartsWithDatagram']), ('the new receiver', ['Begins']),
                   ('events in order', ['AreOfOne', 'events_of'])],

@@ -736,6 +736,15 @@ cpay_status cpay_read_report_block(const uint8_t *rtcp, size_t rtcp_len, bool fu
     return proved_cpay_read_report_block(rtcp ? rtcp : (const uint8_t *)nothing, rtcp_len, full, index, place, block);
 }
 
+cpay_status proved_cpay_read_cname(const uint8_t *rtcp, size_t rtcp_len, bool full, uint32_t ssrc, uint8_t *bytes,
+                                   size_t bytes_len, size_t *size);
+cpay_status cpay_read_cname(const uint8_t *rtcp, size_t rtcp_len, bool full, uint32_t ssrc, uint8_t *bytes, size_t bytes_len,
+                            size_t *size) {
+    if ((!rtcp && rtcp_len) || (!bytes && bytes_len)) return CPAY_INVALID;
+    return proved_cpay_read_cname(rtcp ? rtcp : (const uint8_t *)nothing, rtcp_len, full, ssrc,
+                                  bytes ? bytes : (uint8_t *)nothing, bytes_len, size);
+}
+
 cpay_status proved_cpay_write_sender_report(uint64_t ntp_time, const cpay_sender_report_info *report,
                                             const cpay_report_block_info *blocks, size_t blocks_len, uint8_t *bytes,
                                             size_t bytes_len, size_t *size);
@@ -769,6 +778,23 @@ cpay_status proved_cpay_write_pli(uint32_t sender_ssrc, uint32_t media_ssrc, uin
 cpay_status cpay_write_pli(uint32_t sender_ssrc, uint32_t media_ssrc, uint8_t *bytes, size_t bytes_len, size_t *size) {
     if (!bytes && bytes_len) return CPAY_INVALID;
     return proved_cpay_write_pli(sender_ssrc, media_ssrc, bytes ? bytes : (uint8_t *)nothing, bytes_len, size);
+}
+
+cpay_status proved_cpay_write_fir(uint32_t sender_ssrc, uint32_t media_ssrc, uint8_t command, uint8_t *bytes, size_t bytes_len,
+                                  size_t *size);
+cpay_status cpay_write_fir(uint32_t sender_ssrc, uint32_t media_ssrc, uint8_t command, uint8_t *bytes, size_t bytes_len,
+                           size_t *size) {
+    if (!bytes && bytes_len) return CPAY_INVALID;
+    return proved_cpay_write_fir(sender_ssrc, media_ssrc, command, bytes ? bytes : (uint8_t *)nothing, bytes_len, size);
+}
+
+cpay_status proved_cpay_write_bye(uint32_t ssrc, const uint8_t *reason, size_t reason_len, uint8_t *bytes, size_t bytes_len,
+                                  size_t *size);
+cpay_status cpay_write_bye(uint32_t ssrc, const uint8_t *reason, size_t reason_len, uint8_t *bytes, size_t bytes_len,
+                           size_t *size) {
+    if ((!reason && reason_len) || (!bytes && bytes_len)) return CPAY_INVALID;
+    return proved_cpay_write_bye(ssrc, reason ? reason : (const uint8_t *)nothing, reason_len,
+                                 bytes ? bytes : (uint8_t *)nothing, bytes_len, size);
 }
 
 cpay_status proved_cpay_depacketizer_new(cpay_handle *depacketizer, const cpay_spec *spec);

@@ -349,6 +349,16 @@ static cpay_sdp_error read_formats(section *it, text line) {
     return it->media->is_rtp && skips(&line, "a=rtpmap:") ? read_rtpmap(it, line) : CPAY_SDP_NO_ERROR;
 }
 
+/* `rcvr-rtt=all:10000 stat-summary=loss` */
+static bool has_receiver_rtt(text value) {
+    for (text format = word(&value); format.len > 0; format = word(&value)) {
+        if (!skips(&format, "rcvr-rtt=")) continue;
+        text mode = part(&format, ':');
+        if (equals(mode, "all") || equals(mode, "sender")) return true;
+    }
+    return false;
+}
+
 /* What formats, SSRCs and feedback are read from, in a section of RTP. */
 static cpay_sdp_error read_rtp(section *it, text attribute) {
     if (equals(attribute, "rtcp-mux")) it->media->rtcp_mux = true;
@@ -369,6 +379,10 @@ static cpay_sdp_error read_attribute(section *it, text line) {
     if (begins(line, "crypto:") || begins(line, "fingerprint:")) it->media->encrypted = true;
     if (skips(&line, "extmap:")) return read_extmap(it, line);
     if (!it->is_section && skips(&line, "group:")) return read_group_of_sections(&group, line);
+    if ((!it->is_section || it->media->is_rtp) && skips(&line, "rtcp-xr:")) {
+        it->media->receiver_rtt |= has_receiver_rtt(line);
+        return CPAY_SDP_NO_ERROR;
+    }
     return it->media->is_rtp ? read_rtp(it, line) : read_beside_formats(it->media, line, it->is_section);
 }
 
@@ -409,6 +423,7 @@ static cpay_sdp_error read_section(cpay_sdp_media *media, cpay_sdp_media *sessio
         inherit_ids(media, session);
         inherit_fingerprints(&media->transport, &session->transport);
         media->encrypted |= session->encrypted;
+        media->receiver_rtt |= media->is_rtp && session->receiver_rtt;
     }
     return error;
 }

@@ -8,6 +8,10 @@
  *   descriptions changed N <NAME.sdp   prints the first N changed copies, each as read */
 #include "codec_payload_sdp.h"
 
+#ifdef _WIN32
+#include <fcntl.h>
+#include <io.h>
+#endif
 #include <stdio.h>
 #include <stdlib.h>
 #include <string.h>
@@ -134,8 +138,9 @@ static void print_beside_formats(const cpay_sdp_media *it) {
 }
 
 static void print_media(const cpay_sdp_media *it) {
-    printf("line %zu: %s, port %u%s%s%s%s", it->line, kinds[it->kind], it->port, it->is_rtp ? "" : ", not RTP",
-           it->encrypted ? ", encrypted" : "", it->rtcp_mux ? ", rtcp-mux" : "", it->bundle_only ? ", bundle-only" : "");
+    printf("line %zu: %s, port %u%s%s%s%s%s", it->line, kinds[it->kind], it->port, it->is_rtp ? "" : ", not RTP",
+           it->encrypted ? ", encrypted" : "", it->rtcp_mux ? ", rtcp-mux" : "", it->receiver_rtt ? ", rcvr-rtt" : "",
+           it->bundle_only ? ", bundle-only" : "");
     if (it->packet_time) printf(", ptime %u", it->packet_time);
     printf("\n");
     print_beside_formats(it);
@@ -528,6 +533,9 @@ int main(int count, char **words) {
         compare(compare_clash);
         return EXIT_SUCCESS;
     }
+#ifdef _WIN32
+    _setmode(_fileno(stdin), _O_BINARY); /* the ends of lines stay as they are */
+#endif
     size_t size = fread(given, 1, sizeof given, stdin);
     if (count > 1 && strcmp(words[1], "fuzz") == 0) fuzz(size);
     else if (count > 2)

@@ -148,9 +148,13 @@ static size_t ask_short(void) {
 }
 
 static double now(void) {
+#ifdef _WIN32
+    return (double)clock() * 1e9 / CLOCKS_PER_SEC;
+#else
     struct timespec time;
     clock_gettime(CLOCK_MONOTONIC, &time);
     return (double)time.tv_sec * 1e9 + (double)time.tv_nsec;
+#endif
 }
 
 static void measure(uint32_t codec, const uint8_t *frame, size_t len) {

@@ -270,6 +270,10 @@ static int watching(int *met) {
     if (status || size != 16 || bytes[21] != 202) return 5;
     AGAIN(status, cpay_write_pli(3, 2, bytes, sizeof bytes, &size));
     if (status || size != 12 || bytes[1] != 206 || kept != held) return 6;
+    AGAIN(status, cpay_write_fir(3, 2, 1, bytes, sizeof bytes, &size));
+    if (status || size != 20 || bytes[1] != 206 || kept != held) return 8;
+    AGAIN(status, cpay_write_bye(3, bytes, 2, bytes + 20, 32, &size));
+    if (status || size != 12 || bytes[21] != 203 || kept != held) return 9;
     cpay_freezes_free(&freezes);
     return kept == before ? 0 : 7;
 }
@@ -398,6 +402,47 @@ static int ending(int *met) {
     if (status || unit.fault || unit.bytes != 1 || bytes[0] != 10) return 4;
     cpay_receiver_free(&receiver);
     return kept == before ? 0 : 5;
+}
+
+/* A stream falls silent, and two packets of another SSRC choose theirs. If memory runs out for the first of them, nothing has changed:
+ * the stream before is still chosen. If it runs out for the second, the first was received and has chosen. */
+static int choosing(int *met) {
+    long before = kept;
+    cpay_receiver_settings receives;
+    cpay_receiver receiver = CPAY_INIT;
+    cpay_receiver_counts_info counts = {0}, after = {0};
+    cpay_report_info report = {0};
+    uint8_t bytes[32];
+    cpay_outcome outcome = CPAY_HELD;
+    cpay_status status;
+    cpay_receiver_settings_init(&receives, CPAY_OPUS, 48000, 111, CPAY_FOR_FILE);
+    AGAIN(status, cpay_receiver_new(&receiver, &receives, NULL, 0));
+    if (status) return 1;
+    for (uint8_t i = 0; i < 4; i++) {
+        size_t size = packet(bytes, 111, 7, 10 + i, "\x0a", 1);
+        AGAIN(status, cpay_receiver_receive(&receiver, 20 * i, bytes, size, &outcome));
+        if (status || outcome != (i ? CPAY_HELD : CPAY_UNDECIDED)) return 2;
+    }
+    size_t size = packet(bytes, 111, 9, 200, "\x0b", 1);
+    AGAIN(status, cpay_receiver_receive(&receiver, 2100, bytes, size, &outcome));
+    if (status || outcome != CPAY_UNDECIDED) return 3;
+    if (cpay_receiver_counts(&receiver, &counts) || counts.ssrc != 7 || counts.undecided != 1) return 4;
+    size = packet(bytes, 111, 9, 201, "\x0c", 1);
+    refused = false;
+    status = cpay_receiver_receive(&receiver, 2120, bytes, size, &outcome);
+    if ((status == CPAY_OUT_OF_MEMORY) != refused) return 5;
+    if (refused) {
+        (*met)++;
+        if (cpay_receiver_counts(&receiver, &after) || !after.has_ssrc) return 6;
+        if (after.ssrc == 7 && memcmp(&after, &counts, sizeof counts)) return 7;
+        if (after.ssrc == 7 && (cpay_receiver_report(&receiver, &report) || report.highest != 13)) return 8;
+        if (after.ssrc == 9 && (after.received != counts.received || after.undecided || after.held != counts.held + 1)) return 9;
+        status = cpay_receiver_receive(&receiver, 2120, bytes, size, &outcome);
+    }
+    if (status || outcome != CPAY_HELD) return 10;
+    if (cpay_receiver_counts(&receiver, &after) || after.ssrc != 9 || after.received != 6 || after.held != 6 || after.restarts != 1) return 11;
+    cpay_receiver_free(&receiver);
+    return kept == before ? 0 : 12;
 }
 
 /* Four packets: the second arrives in RED with the third (RFC 2198), and the last is retransmitted (RFC 4588). A packet with
@@ -684,12 +729,12 @@ static int too_large(void) {
     TAKES(1200, "sender", cpay_sender_new(&it.sender, &sends));
     TAKES(200, "history", cpay_history_new(&it.history, &keeps));
     TAKES(400, "forwarder", cpay_forwarder_new(&it.forwarder, &forwards));
-    TAKES(1640, "receiver", cpay_receiver_new(&it.receiver, &receives, NULL, 0));
+    TAKES(1750, "receiver", cpay_receiver_new(&it.receiver, &receives, NULL, 0));
     TAKES(1900, "adaptive wait", cpay_adaptive_wait_new(&it.adaptive_wait, &waits));
     TAKES(350, "counter of freezes", cpay_freezes_new(&it.freezes, 1000));
     TAKES(250, "transport reporter", cpay_transport_reporter_new(&it.transport_reporter, &reports, NULL, 0));
     TAKES(100, "list of sent packets", cpay_sent_packets_new(&it.sent_packets, 2048));
-    TAKES(1630, "session", cpay_session_new(&it.session, &port, &format, 1, NULL, 0, NULL, 0));
+    TAKES(1670, "session", cpay_session_new(&it.session, &port, &format, 1, NULL, 0, NULL, 0));
     return bad;
 }
 
@@ -796,6 +841,7 @@ static int session(int *met) {
     if (!ended) ended = transport(met);
     if (!ended) ended = port(met);
     if (!ended) ended = ending(met);
+    if (!ended) ended = choosing(met);
     return ended ? ended : recovery(met);
 }
 

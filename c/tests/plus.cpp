@@ -115,6 +115,8 @@ void over_a_port() {
         CHECK(from.datagram(place, datagram) == CPAY_OK);
         CHECK(to.receive(0, datagram, arrival) == CPAY_OK && arrival.kind == CPAY_ARRIVAL_STREAM && arrival.ssrc == 7);
     }
+    CHECK(to.receive_at(0, 5, datagram, arrival) == CPAY_OK && arrival.outcome == CPAY_DUPLICATE);
+    CHECK(to.restart_transport() == CPAY_OK);
     std::uint64_t at = 9;
     CHECK(to.next_deadline(at) == CPAY_OK && at == 0);
     cpay_event event = {};
@@ -139,7 +141,7 @@ void over_a_port() {
     CHECK(to.stream_at(0, stream) == CPAY_OK && stream.counts.units == 1 && to.stream_at(1, stream) == CPAY_NONE);
     CHECK(to.end(100, 7) == CPAY_OK && to.finish(100) == CPAY_OK);
     CHECK(to.poll(100, event) == CPAY_OK && event.kind == CPAY_EVENT_ENDED && event.bytes == 0);
-    CHECK(to.counts(counts) == CPAY_OK && counts.received == 3 && counts.ended == 3);
+    CHECK(to.counts(counts) == CPAY_OK && counts.received == 4 && counts.ended == 4);
 }
 
 void over_payloads() {
@@ -254,6 +256,8 @@ void over_rtcp() {
     CHECK(cpay::write_receiver_report(1, blocks, to, size) == CPAY_OK && size == 32);
     CHECK(cpay::write_cname(1, name, to, size) == CPAY_OK && size == 16);
     CHECK(cpay::write_pli(1, 2, to, size) == CPAY_OK && size == 12 && to[1] == 206);
+    CHECK(cpay::write_fir(1, 2, 3, to, size) == CPAY_OK && size == 20 && to[0] == 0x84 && to[16] == 3);
+    CHECK(cpay::write_bye(1, {}, to, size) == CPAY_OK && size == 8 && to[1] == 203);
     const std::array<std::uint8_t, 4> payload = {0x90, 0x20, 0xa0, 0};
     cpay_temporal_layer_info layer = {};
     bool begins = false;

@@ -1,5 +1,5 @@
 /* RTCP without a session, freezes, and what payloads say to a server. The bytes were written by hand after RFC 3550, sections 6.4.1,
- * 6.4.2 and 6.5, RFC 4585, section 6.3.1, RFC 7741 and RFC 9628, section 4.2; freezes were worked by the W3C's rule. */
+ * 6.4.2, 6.5 and 6.6, RFC 4585, section 6.3.1, RFC 5104, section 4.3.1, RFC 7741 and RFC 9628, section 4.2; freezes were worked by the W3C's rule. */
 #include "any.h"
 #include "check.h"
 #include "codec_payload.h"
@@ -23,6 +23,8 @@ static const uint8_t SENDER[28] = {0x81, 200, 0, 12, 0, 0, 0, 1, 0x88, 0x99, 0xa
 static const uint8_t RECEIVER[8] = {0x80, 201, 0, 1, 0, 0, 0, 3};
 static const uint8_t NAME[16] = {0x81, 202, 0, 3, 0, 0, 0, 3, 1, 2, 'a', 'b', 0, 0, 0, 0};
 static const uint8_t PLI[12] = {0x81, 206, 0, 2, 0, 0, 0, 3, 0, 0, 0, 2};
+/* Command 7 to SSRC 2: the media SSRC of the header is 0, and the reserved bytes of the entry are 0. */
+static const uint8_t FIR[20] = {0x84, 206, 0, 4, 0, 0, 0, 3, 0, 0, 0, 0, 0, 0, 0, 2, 7, 0, 0, 0};
 
 static bool is_untouched(const uint8_t *bytes, size_t size) {
     for (size_t i = 0; i < size; i++)
@@ -58,6 +60,16 @@ static void packets(void) {
     static const uint8_t shortest[12] = {0x81, 202, 0, 2, 0, 0, 0, 3, 1, 1, 'a', 0};
     WRITES(shortest, 12, cpay_write_cname(3, (const uint8_t *)"a", 1, bytes, room, &size))
     WRITES(PLI, 12, cpay_write_pli(3, 2, bytes, room, &size))
+    WRITES(FIR, 20, cpay_write_fir(3, 2, 7, bytes, room, &size))
+}
+
+/* A BYE without a reason; with one of 2 bytes, which a zero fills to whole words; with one of 3, which needs none. */
+static void byes(void) {
+    static const uint8_t none[8] = {0x81, 203, 0, 1, 0, 0, 0, 3};
+    static const uint8_t two[12] = {0x81, 203, 0, 2, 0, 0, 0, 3, 2, 'a', 'b', 0}, three[12] = {0x81, 203, 0, 2, 0, 0, 0, 3, 3, 'a', 'b', 'c'};
+    WRITES(none, 8, cpay_write_bye(3, NULL, 0, bytes, room, &size))
+    WRITES(two, 12, cpay_write_bye(3, (const uint8_t *)"ab", 2, bytes, room, &size))
+    WRITES(three, 12, cpay_write_bye(3, (const uint8_t *)"abc", 3, bytes, room, &size))
 }
 
 /* What no packet can have. */
@@ -72,10 +84,13 @@ static void bounds(void) {
     CHECK(cpay_write_receiver_report(1, blocks, 31, bytes, sizeof bytes, &size) == CPAY_INVALID && size == 99);
     CHECK(cpay_write_cname(1, name, 256, bytes, sizeof bytes, &size) == CPAY_INVALID && size == 99);
     CHECK(cpay_write_cname(1, NULL, 1, bytes, sizeof bytes, &size) == CPAY_INVALID && size == 99);
+    CHECK(cpay_write_bye(1, name, 256, bytes, sizeof bytes, &size) == CPAY_INVALID && size == 99);
+    CHECK(cpay_write_bye(1, NULL, 1, bytes, sizeof bytes, &size) == CPAY_INVALID && size == 99);
     CHECK(is_untouched(bytes, sizeof bytes));
     blocks[30].cumulative_lost = (1 << 24) - 1;
     CHECK(cpay_write_receiver_report(1, blocks, 31, bytes, sizeof bytes, &size) == CPAY_OK && size == 8 + 31 * 24 && bytes[0] == 0x9f);
     CHECK(cpay_write_cname(1, name, 255, bytes, sizeof bytes, &size) == CPAY_OK && size == 268 && bytes[9] == 255);
+    CHECK(cpay_write_bye(1, name, 255, bytes, sizeof bytes, &size) == CPAY_OK && size == 264 && bytes[8] == 255 && bytes[3] == 65);
 }
 
 /* A compound packet of the four, as a server sends it: its reports and their blocks. */
@@ -106,6 +121,33 @@ static void reading(void) {
     CHECK(cpay_read_report_block(rtcp, 48, true, 0, 0, &block) == CPAY_RTCP_REPORT_TOO_SHORT && block.ssrc == 2);
     CHECK(cpay_read_report(NULL, 0, false, 0, &report) == CPAY_RTCP_HEADER_TOO_SHORT);
     CHECK(cpay_read_report(NULL, 1, false, 0, &report) == CPAY_INVALID && report.ssrc == kept.ssrc);
+}
+
+/* A receiver report, a source description with two chunks, whose first one has another item in front of its name, and one with a chunk
+ * without a name, a second name of a source and an empty name. */
+static void names(void) {
+    static const uint8_t rtcp[] = {
+        0x80, 201, 0, 1, 0, 0, 0, 3,                                                     /* a receiver report of SSRC 3 */
+        0x82, 202, 0, 6, 0, 0, 0, 5, 2, 1, 'x', 1, 2, 'a', 'b', 0,                       /* SSRC 5: NAME, CNAME, the end */
+        0, 0, 0, 6, 1, 3, 'c', 'd', 'e', 0, 0, 0,                                        /* SSRC 6: CNAME, the end, zeros */
+        0x83, 202, 0, 7, 0, 0, 0, 8, 2, 1, 'y', 0, 0, 0, 0, 6, 1, 2, 'z', 'z', 0, 0, 0, 0, /* SSRC 8: NAME; SSRC 6 once more */
+        0, 0, 0, 9, 1, 0, 0, 0};                                                         /* SSRC 9: an empty CNAME */
+    uint8_t bytes[8];
+    size_t size = 99;
+    CHECK(sizeof rtcp == 8 + 28 + 32);
+    memset(bytes, UNTOUCHED, sizeof bytes);
+    CHECK(cpay_read_cname(rtcp, sizeof rtcp, true, 5, bytes, sizeof bytes, &size) == CPAY_OK && size == 2 && !memcmp(bytes, "ab", 2));
+    CHECK(is_untouched(bytes + 2, sizeof bytes - 2));
+    CHECK(cpay_read_cname(rtcp, sizeof rtcp, true, 6, bytes, 3, &size) == CPAY_OK && size == 3 && !memcmp(bytes, "cde", 3));
+    CHECK(cpay_read_cname(rtcp, sizeof rtcp, true, 6, bytes, 2, &size) == CPAY_TOO_SMALL && size == 3 && !memcmp(bytes, "cde", 3));
+    CHECK(cpay_read_cname(rtcp, sizeof rtcp, true, 9, NULL, 0, &size) == CPAY_OK && size == 0);
+    size = 99;
+    CHECK(cpay_read_cname(rtcp, sizeof rtcp, true, 8, bytes, sizeof bytes, &size) == CPAY_NONE && size == 99);
+    CHECK(cpay_read_cname(rtcp, sizeof rtcp, true, 3, bytes, sizeof bytes, &size) == CPAY_NONE && size == 99);
+    CHECK(cpay_read_cname(rtcp + 8, 28, true, 5, bytes, sizeof bytes, &size) == CPAY_RTCP_FIRST_NOT_REPORT && size == 99);
+    CHECK(cpay_read_cname(rtcp + 8, 28, false, 6, bytes, sizeof bytes, &size) == CPAY_OK && size == 3);
+    CHECK(cpay_read_cname(NULL, 0, false, 5, bytes, sizeof bytes, &size) == CPAY_RTCP_HEADER_TOO_SHORT);
+    CHECK(cpay_read_cname(NULL, 1, false, 5, bytes, sizeof bytes, &size) == CPAY_INVALID);
 }
 
 /* Any bytes, at the end of a page as far as a sanitizer sees it. */
@@ -263,8 +305,10 @@ static void handles(void) {
 
 int main(void) {
     packets();
+    byes();
     bounds();
     reading();
+    names();
     hostile();
     keyframes();
     layers();

@@ -437,6 +437,8 @@ static void sent_reports(void) {
     static const uint8_t name[] = {0x81, 202, 0, 4, 0, 0, 0, 77, 1, 7, 'm', 'e', '@', 'h', 'o', 's', 't', 0, 0, 0};
     static const uint8_t first[] = {0x81, 201, 0, 7, 0, 0, 0, 77, 0, 0, 0, 1, 64, 0, 0, 1, 0, 0, 0, 4};
     static const uint8_t second[] = {0x81, 201, 0, 7, 0, 0, 0, 77, 0, 0, 0, 1, 0, 0, 0, 1, 0, 0, 0, 5};
+    /* RFC 3611, section 4.4: 1.999 s, in units of 1/2^32 s */
+    static const uint8_t time[] = {0x80, 207, 0, 4, 0, 0, 0, 77, 4, 0, 0, 2, 0, 0, 0, 1, 0xff, 0xbe, 0x76, 0xc8};
     cpay_session_settings settings;
     cpay_session_settings_init(&settings, CPAY_FOR_LIVE);
     cpay_session session = CPAY_INIT;
@@ -451,9 +453,9 @@ static void sent_reports(void) {
     CHECK(deadline(&session) == 1999);
     /* 4 are expected, and 1 is lost: 256 / 4 */
     CHECK(cpay_session_poll(&session, 1999, &event) == CPAY_OK && event.kind == CPAY_EVENT_REPORT);
-    CHECK(event.bytes == 52 && event.unit.bytes == 0);
+    CHECK(event.bytes == 72 && event.unit.bytes == 0);
     CHECK(event.ssrc == 0 && event.payload_type == 0 && same(event.data, (const char *)first, sizeof first));
-    CHECK(same(event.data + 32, (const char *)name, sizeof name));
+    CHECK(same(event.data + 32, (const char *)name, sizeof name) && same(event.data + 52, (const char *)time, sizeof time));
     CHECK(happens(&session, 1999, ".") && deadline(&session) == 2999);
     opus(&session, 2000, 1, 5);
     while (cpay_session_poll(&session, 2998, &event) == CPAY_OK) CHECK(event.kind != CPAY_EVENT_REPORT);
@@ -468,6 +470,42 @@ static void sent_reports(void) {
     cpay_session_free(&session);
 }
 
+/* Extended reports (RFC 3611, sections 4.4 and 4.5): an answer tells the round trip, and the session answers the times of others. */
+static void extended_reports(void) {
+    /* an answer of SSRC 5 to SSRC 77: the middle 32 bits of 1 s, which came 37 ms ago */
+    static const uint8_t answer[] = {0x80, 207, 0, 5, 0, 0, 0, 5, 5, 0, 0, 3, 0, 0, 0, 77, 0, 1, 0, 0, 0, 0, 9, 0x79};
+    static const uint8_t time[] = {0x80, 207, 0, 4, 0, 0, 0, 5, 4, 0, 0, 2, 1, 2, 3, 4, 5, 6, 7, 8};
+    /* the reference time of 2 s, and the answer to that of SSRC 5, which came half a second ago */
+    static const uint8_t both[] = {0x80, 207, 0, 4, 0, 0, 0, 77, 4, 0, 0, 2, 0, 0, 0, 2, 0, 0, 0, 0,
+                                   0x80, 207, 0, 5, 0, 0, 0, 77, 5, 0, 0, 3, 0, 0, 0, 5, 3, 4, 5, 6, 0, 0, 0x80, 0};
+    for (int on = 0; on < 2; on++) {
+        cpay_session_settings settings;
+        cpay_session session = CPAY_INIT;
+        cpay_session_format format = FORMATS[0];
+        cpay_session_stream stream = {0};
+        cpay_event event;
+        cpay_arrival arrival;
+        format.nack = true;
+        cpay_session_settings_init(&settings, CPAY_FOR_LIVE);
+        CHECK(cpay_session_settings_feedback(&settings, 77, (const uint8_t *)"me", 2) == CPAY_OK);
+        settings.feedback.extended = on;
+        CHECK(cpay_session_new(&session, &settings, &format, 1, NULL, 0, NULL, 0) == CPAY_OK);
+        opus(&session, 0, 1, 1);
+        opus(&session, 0, 1, 2);
+        while (cpay_session_poll(&session, 0, &event) == CPAY_OK) {}
+        CHECK(cpay_session_poll(&session, 1000, &event) == CPAY_OK && event.kind == CPAY_EVENT_REPORT);
+        CHECK(event.bytes == (on ? 68u : 48u));
+        CHECK(cpay_session_receive(&session, 1197, answer, sizeof answer, &arrival) == CPAY_OK && arrival.kind == CPAY_ARRIVAL_RTCP);
+        CHECK(cpay_session_stream_at(&session, 0, &stream) == CPAY_OK && stream.has_round_trip == (on == 1));
+        CHECK(stream.round_trip == (on ? 160u : 0u));
+        CHECK(cpay_session_receive(&session, 1500, time, sizeof time, &arrival) == CPAY_OK);
+        CHECK(cpay_session_poll(&session, 2000, &event) == CPAY_OK && event.kind == CPAY_EVENT_REPORT);
+        CHECK(event.bytes == (on ? 92u : 48u));
+        if (on) CHECK(same(event.data + 48, (const char *)both, sizeof both));
+        cpay_session_free(&session);
+    }
+}
+
 /* A report with room for one block: two streams take turns (RFC 3550, section 6.1). */
 static void turns(void) {
     cpay_session_settings settings;
@@ -475,8 +513,9 @@ static void turns(void) {
     cpay_event event;
     cpay_session_settings_init(&settings, CPAY_FOR_LIVE);
     CHECK(cpay_session_settings_feedback(&settings, 9, (const uint8_t *)"me", 2) == CPAY_OK);
-    CHECK(settings.feedback.max_report == 1200);
+    CHECK(settings.feedback.max_report == 1200 && settings.feedback.extended);
     settings.feedback.max_report = 48;
+    settings.feedback.extended = false;
     CHECK(cpay_session_new(&session, &settings, FORMATS, 2, NULL, 0, NULL, 0) == CPAY_OK);
     for (uint8_t ssrc = 1; ssrc <= 2; ssrc++) {
         opus(&session, 0, ssrc, 1);
@@ -1074,6 +1113,7 @@ int main(void) {
     round_trips();
     keyframes_for_others();
     sent_reports();
+    extended_reports();
     turns();
     transports();
     redundant();

@@ -6,9 +6,9 @@
 
 use codec_payload::Ticks;
 use codec_payload::bandwidth::{
-    BandwidthEstimator, LayerChoice, LayerChooser, LayerSettings, PacedKind, PacedPacket, Pacer,
-    PacerSettings, PacketFate, PacketOutcome, ResendLimit, ResendSettings,
+    LayerChoice, PacedKind, PacedPacket, PacerSettings, PathSettings, ViewerPath,
 };
+use codec_payload::congestion::TransportFeedback;
 use std::collections::VecDeque;
 
 /// Rates of all with audio of 50 kbit/s, in bits per second. From the fourth on a larger size, which begins with a keyframe.
@@ -77,14 +77,9 @@ impl Link {
 }
 
 struct Viewer {
-    estimator: BandwidthEstimator,
-    chooser: LayerChooser,
-    pacer: Pacer,
-    limit: ResendLimit,
+    path: ViewerPath,
     choices: [LayerChoice; 6],
     choice: usize,
-    /// What a trial may still fill, in bits times 1,000.
-    fill: u64,
     reported: usize,
     resent: u64,
 }
@@ -101,20 +96,20 @@ impl Viewer {
             };
             LayerChoice { rate, begin }
         });
+        let settings = PathSettings {
+            start: 160_000,
+            least: 30_000,
+            most: 5_000_000,
+            pacer: PacerSettings {
+                burst: 400,
+                bound: 60_000,
+            },
+            ..PathSettings::live()
+        };
         Viewer {
-            estimator: BandwidthEstimator::new(Ticks(0), 160_000, 30_000, 5_000_000),
-            chooser: LayerChooser::new(LayerSettings::live(), 0),
-            pacer: Pacer::new(
-                160_000,
-                PacerSettings {
-                    burst: 400,
-                    bound: 60_000,
-                },
-            ),
-            limit: ResendLimit::new(ResendSettings::live()),
+            path: ViewerPath::new(Ticks(0), settings).unwrap(),
             choices,
             choice: 0,
-            fill: 0,
             reported: 0,
             resent: 0,
         }
@@ -125,28 +120,25 @@ impl Viewer {
         for id in 0..packets {
             let size = (bytes / packets) as u32;
             // A packet for which there is no room is not sent.
-            let _ = self.pacer.push(PacedPacket { kind, size, id });
+            let _ = self.path.push(PacedPacket { kind, size, id });
         }
     }
 
     /// Chooses layers and a pace, each 10 ms.
     fn choose(&mut self, now: u64) {
-        let carries = self.estimator.carries();
-        let choice = self.chooser.choose(Ticks(now), carries, &self.choices);
+        let order = self.path.choose(Ticks(now), &self.choices);
+        let choice = order.choice;
         if choice >= LARGER && self.choice < LARGER {
             self.push(PacedKind::Media, KEYFRAME);
         } else if choice < LARGER && self.choice >= LARGER {
             // What waits of the size that is left helps nobody.
-            while self.pacer.remove(PacedKind::Media).is_some() {}
+            while self.path.remove(PacedKind::Media).is_some() {}
             self.push(PacedKind::Media, KEYFRAME / 3);
         }
         self.choice = choice;
-        let wanted = self.chooser.wanted(1, &self.choices);
-        let wanted = wanted * self.estimator.estimate() / carries.max(1);
-        self.estimator
-            .tick(Ticks(now), self.choices[choice].rate, wanted);
-        let pace = self.estimator.pace(Ticks(now)).max(RATES[0] * 5 / 4);
-        self.pacer.set_rate(Ticks(now), pace);
+        if order.padding >= 300 {
+            self.push(PacedKind::Padding, u64::from(order.padding));
+        }
     }
 
     /// Makes media, each millisecond.
@@ -158,25 +150,14 @@ impl Viewer {
         if now % 33_000 == 0 {
             self.push(PacedKind::Media, media / 8 * 33 / 1_000);
         }
-        self.fill = match self.estimator.trial() {
-            Some(trial) => self.fill + trial.rate(Ticks(now)),
-            None => 0,
-        };
-        if self.fill >= 8_000_000 && self.pacer.waiting() == 0 {
-            self.push(PacedKind::Padding, 1_000);
-        }
     }
 
     /// Sends what leaves now.
     fn send(&mut self, now: u64, rate: u64, link: &mut Link, sent: &mut Vec<Sent>) {
-        while let Some(packet) = self.pacer.pop(Ticks(now)) {
-            self.fill = self.fill.saturating_sub(u64::from(packet.size) * 8_000);
-            if packet.kind != PacedKind::Resent {
-                self.limit.sent(Ticks(now), packet.size);
-            }
+        while let Some(leaving) = self.path.pop(Ticks(now)) {
             sent.push(Sent {
                 at: now,
-                size: packet.size,
+                size: leaving.packet.size,
                 arrived: None,
                 is_lost: false,
             });
@@ -188,31 +169,39 @@ impl Viewer {
     fn hear(&mut self, now: u64, sent: &[Sent]) {
         let known = |it: &Sent| it.arrived.is_some_and(|at| at + DELAY <= now);
         let newest = sent.iter().rposition(known).map_or(0, |last| last + 1);
-        let mut fates = Vec::new();
-        for (number, it) in sent.iter().enumerate().take(newest).skip(self.reported) {
-            let outcome = match it.arrived {
-                Some(at) => PacketOutcome::Arrived(at),
-                None => PacketOutcome::Lost,
-            };
-            fates.push(PacketFate {
-                sent: it.at,
-                size: it.size,
-                outcome,
-            });
-            if it.is_lost
-                && self
-                    .limit
-                    .resend(Ticks(now), number as u16, it.size, 2 * DELAY)
-                    .is_ok()
+        if newest <= self.reported {
+            return;
+        }
+        let told = &sent[self.reported..newest];
+        let lost: Vec<(usize, u32)> = told
+            .iter()
+            .enumerate()
+            .filter(|(_, it)| it.is_lost)
+            .map(|(index, it)| (self.reported + index, it.size))
+            .collect();
+        for (number, size) in lost {
+            if self
+                .path
+                .resend(Ticks(now), number as u16, size, 2 * DELAY)
+                .is_ok()
             {
                 self.resent += 1;
-                self.push(PacedKind::Resent, u64::from(it.size));
+                self.push(PacedKind::Resent, u64::from(size));
             }
         }
-        self.reported = self.reported.max(newest);
-        if !fates.is_empty() {
-            self.estimator.feedback(Ticks(now), 2 * DELAY, &fates);
-        }
+        let feedback = TransportFeedback {
+            base: self.reported as u16,
+            reference: 0,
+            counter: 0,
+            statuses: told
+                .iter()
+                .map(|it| it.arrived.map(|at| (at / 250) as u32))
+                .collect(),
+        };
+        self.reported = newest;
+        self.path
+            .feedback(Ticks(now), 2 * DELAY, &feedback)
+            .unwrap();
     }
 }
 

@@ -9,12 +9,15 @@ pub mod arrivals;
 pub mod chooser;
 #[doc(hidden)]
 pub mod delays;
+mod departures;
 #[doc(hidden)]
 pub mod estimator;
 #[doc(hidden)]
 pub mod losses;
 #[doc(hidden)]
 pub mod pacer;
+#[doc(hidden)]
+pub mod path;
 #[doc(hidden)]
 pub mod rate;
 #[doc(hidden)]
@@ -37,6 +40,9 @@ pub use losses::Losses;
 
 #[doc(inline)]
 pub use pacer::{PacedKind, PacedPacket, Pacer, PacerError, PacerSettings};
+
+#[doc(inline)]
+pub use path::{Leaving, PathOrder, PathSettings, ViewerPath};
 
 #[doc(inline)]
 pub use rate::{PathRate, Trial};

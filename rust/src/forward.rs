@@ -3,7 +3,6 @@
 //! What a forwarder (SFU) needs for each viewer: the numbers of its packets between and across switches of the source
 //! (docs/use/FORWARDING.md).
 
-mod beginning;
 #[doc(hidden)]
 pub mod counts;
 #[doc(hidden)]

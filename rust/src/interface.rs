@@ -13,7 +13,7 @@ pub use report::{REPORT_SIZE, TelephoneEvents, duration_from_units};
 
 /// Codec-specific data of a frame, from its payloads.
 #[derive(Clone, Copy, Debug, PartialEq, Eq)]
-#[non_exhaustive]
+#[cfg_attr(not(feature = "exhaustive"), non_exhaustive)]
 pub enum CodecExtra {
     /// No codec-specific data.
     None,

@@ -20,7 +20,9 @@ pub mod outcome;
 pub mod waiting;
 
 #[doc(inline)]
-pub use jitter_buffer::{JitterBuffer, KeptPacket, Outcome, PacketCounters, WaitLimits};
+pub use jitter_buffer::{
+    BeforeRestart, JitterBuffer, KeptPacket, Outcome, PacketCounters, WaitLimits,
+};
 
 #[doc(inline)]
 pub use missing::MissingNumbers;

@@ -89,6 +89,7 @@
     clippy::ptr_arg,
     clippy::boxed_local,
     clippy::default_constructed_unit_structs,
+    clippy::explicit_counter_loop,
     clippy::single_match,
     clippy::while_let_on_iterator,
     clippy::len_without_is_empty,

@@ -261,9 +261,10 @@ pub mod layers {
 pub mod bandwidth {
     #[doc(inline)]
     pub use crate::bandwidth::{
-        Arrivals, BandwidthEstimator, Delays, LayerChoice, LayerChooser, LayerSettings, Losses,
-        PacedKind, PacedPacket, Pacer, PacerError, PacerSettings, PacketFate, PacketOutcome,
-        PathRate, ResendLimit, ResendRefused, ResendSettings, Trial, choose, trial_rate,
+        Arrivals, BandwidthEstimator, Delays, LayerChoice, LayerChooser, LayerSettings, Leaving,
+        Losses, PacedKind, PacedPacket, Pacer, PacerError, PacerSettings, PacketFate,
+        PacketOutcome, PathOrder, PathRate, PathSettings, ResendLimit, ResendRefused,
+        ResendSettings, Trial, ViewerPath, choose, trial_rate,
     };
 
     #[doc(hidden)]

@@ -12,7 +12,7 @@ use core::fmt;
 
 /// Which setting of a writer is out of range.
 #[derive(Clone, Copy, Debug, PartialEq, Eq)]
-#[non_exhaustive]
+#[cfg_attr(not(feature = "exhaustive"), non_exhaustive)]
 pub enum RedWriterError {
     /// The payload type of the media is above 127.
     MediaType,
@@ -40,7 +40,7 @@ impl core::error::Error for RedWriterError {}
 
 /// Why a datagram was not written.
 #[derive(Clone, Copy, Debug, PartialEq, Eq)]
-#[non_exhaustive]
+#[cfg_attr(not(feature = "exhaustive"), non_exhaustive)]
 pub enum RedWriteError {
     /// It is not an RTP packet.
     Rtp(RtpError),

@@ -165,6 +165,11 @@ pub struct Media<'a> {
     pub is_encrypted: bool,
     /// Whether RTCP comes on the port of RTP (RFC 5761).
     pub has_rtcp_mux: bool,
+    /// `a=rtcp-xr` with `rcvr-rtt`, for all or for senders (RFC 3611, section 5.1), in the section or the session: extended reports
+    /// measure the round trip. Repeat the line in an answer; [`FeedbackSettings`] have it by default.
+    ///
+    /// [`FeedbackSettings`]: crate::session::FeedbackSettings
+    pub has_receiver_rtt: bool,
     /// `a=bundle-only`: port 0 refuses nothing (RFC 9143, section 6).
     pub is_bundle_only: bool,
     /// `a=ptime`, in microseconds.

@@ -37,7 +37,7 @@ pub struct SenderSettings {
 
 /// Why a sender was not made.
 #[derive(Clone, Copy, Debug, PartialEq, Eq)]
-#[non_exhaustive]
+#[cfg_attr(not(feature = "exhaustive"), non_exhaustive)]
 pub enum SenderError {
     /// The payload type is above 127.
     PayloadType,

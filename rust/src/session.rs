@@ -11,6 +11,7 @@ pub mod checks;
 mod compound;
 mod dues;
 mod events;
+mod exchange;
 #[doc(hidden)]
 pub mod formats;
 mod former;
@@ -37,6 +38,7 @@ mod telephone;
 mod times;
 mod transport;
 mod transports;
+mod trips;
 mod waking;
 
 #[doc(inline)]

@@ -138,7 +138,7 @@ pub struct SenderInfo {
 
 /// A payload format.
 #[derive(Clone, Copy, Debug, PartialEq, Eq)]
-#[non_exhaustive]
+#[cfg_attr(not(feature = "exhaustive"), non_exhaustive)]
 pub enum Codec {
     Opus,
     PCMU,

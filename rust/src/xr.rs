@@ -2,6 +2,8 @@
 
 //! Extended reports of RFC 3611 that measure the round trip from a receiver: its reference time, and the sender's answer to it.
 
+#[doc(hidden)]
+pub mod exchange;
 mod reading;
 #[doc(hidden)]
 pub mod report;
@@ -9,6 +11,9 @@ pub mod report;
 pub mod times;
 #[doc(hidden)]
 pub mod writing;
+
+#[doc(inline)]
+pub use exchange::{PeerTime, TimeExchange, reference_time};
 
 #[doc(inline)]
 pub use report::{Dlrr, ExtendedReport, XR, XrBlock, XrFault};

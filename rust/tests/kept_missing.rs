@@ -61,6 +61,12 @@ fn call(packets: &mut JitterBuffer, dice: &mut Dice, now: Ticks, number: u64) {
         0..9 => packets.push_no_media(number as u16).unwrap(),
         9 if dice.below(20) == 0 => packets.restart(),
         9 if dice.below(40) == 0 => packets.finish(),
+        10 | 11 => {
+            let highest = packets.greatest().unwrap_or(60_000);
+            let first = highest.saturating_sub(dice.below(80));
+            let end = first + dice.below(60);
+            packets.note_no_media(first, end).unwrap();
+        }
         _ => push(packets, dice, now, number),
     }
 }

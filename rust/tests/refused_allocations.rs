@@ -2,6 +2,8 @@
 //! with memory succeeds or fails as its input says. Nothing aborts.
 #![cfg(feature = "fallible")]
 
+#[path = "refused/choice.rs"]
+mod choice;
 #[allow(dead_code, reason = "the tests of sessions use the rest")]
 #[path = "sessions/datagrams.rs"]
 mod datagrams;

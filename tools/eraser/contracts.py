@@ -3,7 +3,7 @@ import re
 
 from premises import REACHABLE, WITHIN
 from source import document, drop_item, function_of, has_own_debug, item_start, merged, owner, type_behind, without_doc
-from layout import CONSTANT_FUNCTIONS
+from layout import CONSTANT_FUNCTIONS, may_grow
 from tokens import Refused, angles, close, elements, plain, tokens
 
 
@@ -52,7 +52,7 @@ def keep_premises(f, k, texts):
     start = item_start(f, k)
     kind, of = owner(f, k)
     is_public = any(t.text == "pub" for t in f.ts[start:k]) and f.ts[k - 1].text != ")"
-    if not is_public and kind not in ("pub trait", "impl of a trait"):
+    if not f.has_users or not is_public and kind not in ("pub trait", "impl of a trait"):
         return
     name = f"{of}::{f.ts[k + 1].text}" if of else f.ts[k + 1].text
     said = "; ".join(re.sub(r"\s+", " ", re.match(r"requires(?:\s+\w+)?\s*\{(.*)\}$", t, re.S).group(1)).strip() for t in texts)
@@ -113,7 +113,7 @@ def drop_attributes(f):
             if plain(f.ts[k:end + 1]) == "[ doc ( hidden ) ]":
                 i = end + 1
                 continue
-            if name not in ("inline", "cold", "must_use", "cfg", "test", "error", "allow", "non_exhaustive", "repr", "default"):
+            if name not in ("inline", "cold", "must_use", "cfg", "test", "error", "allow", "non_exhaustive", "cfg_attr", "repr", "default"):
                 f.refuse(t, f"attribute {name}")
             i = end
         i += 1
@@ -136,7 +136,7 @@ def trim_derive(f, i, k):
     names += [n for n in MORE.get(type_behind(f, end), []) if n not in names]
     if names:
         name = type_behind(f, end)
-        grows = "\n#[non_exhaustive]" if name in GROWING else "\n#[doc(hidden)]" if is_inner(f, name) else ""
+        grows = f"\n{may_grow(f)}" if name in GROWING else "\n#[doc(hidden)]" if is_inner(f, name) else ""
         f.ts[k + 2:end + 1] = tokens("(%s)]%s" % (", ".join(names), grows))[:-1]
         return close(f.ts, k)
     pre = t.pre

@@ -10,9 +10,11 @@ from layout import CONSTANT_FUNCTIONS
 from tokens import joined, plain, tokens
 
 
-def erase(f, crate, module, passed_on):
-    """Makes a file of the library, or of a program if `crate` is None, a file of Rust."""
+def erase(f, crate, module, passed_on, has_memory=False):
+    """Makes a file of the library, or of another crate if `crate` is None, a file of Rust. Another crate uses the library's module
+    `memory` and `std`, unless it has a module `memory` itself: then it is without `std`, as the library."""
     root = "crate" if crate else "codec_payload"
+    without_std = crate is not None or has_memory
     contracts.drop_clauses(f)
     contracts.drop_ghosts(f)
     contracts.drop_models(f)
@@ -29,10 +31,10 @@ def erase(f, crate, module, passed_on):
     forms.mark_unused(f)
     paths.rename_types(f, crate, module)
     paths.move_paths(f, crate, root, passed_on)
-    paths.std_paths(f, crate is not None)
-    if crate:
+    paths.std_paths(f, without_std)
+    if without_std:
         paths.bare_imports(f)
-    import_needs(f, root)
+    import_needs(f, "crate" if has_memory else root)
     contracts.refuse_leftovers(f)
 
 

@@ -1,6 +1,7 @@
 """Writes out the derive of `thiserror`, so that the crate needs neither that crate nor `std`."""
 import re
 
+from layout import may_grow
 from source import type_behind
 from tokens import close, elements, plain, tokens
 
@@ -17,7 +18,7 @@ def derive_errors(f):
             names = [plain(f.ts[a:b]) for a, b in elements(f.ts, i + 3)[0]]
             if "Error" in names:
                 names.remove("Error")
-                more = "" if type_behind(f, end) in CLOSED else "\n#[non_exhaustive]"
+                more = "" if type_behind(f, end) in CLOSED else f"\n{may_grow(f)}"
                 f.ts[i + 3:end + 1] = tokens(f"({', '.join(names)})]{more}")[:-1]
                 made.append(write_error(f, i))
         i += 1

@@ -1,10 +1,12 @@
 """Where the modules of the proved crates go in the one crate of plain Rust."""
 
 # The crates of the library, each after the crates that it uses.
-LIBRARY = ["base", "audio", "vp8", "vp9", "av1", "red", "rtp", "sending_red", "rtcp", "feedback_congestion", "sending_history", "sending_forward", "syntax", "vpx", "descriptor", "media", "keyframes", "feedback_requests", "feedback", "feedback_transport", "feedback_ccfb", "feedback_xr", "fec", "feedback_wait", "feedback_freezes", "bandwidth_pacer", "bandwidth_layers", "bandwidth_estimate", "bandwidth_estimator", "bandwidth", "layers", "edges", "index", "queue", "references", "codec", "contiguity", "metadata", "buffer", "numbers", "jitter", "datagrams", "receiver", "session_formats", "session_requests", "session_stream", "session", "sending",
+LIBRARY = ["base", "audio", "vp8", "vp9", "av1", "red", "rtp", "sending_red", "rtcp", "feedback_congestion", "sending_history", "sending_forward", "syntax", "vpx", "descriptor", "media", "keyframes", "feedback_requests", "feedback", "feedback_transport", "feedback_ccfb", "feedback_xr", "fec", "feedback_wait", "feedback_freezes", "bandwidth_pacer", "bandwidth_layers", "bandwidth_estimate", "bandwidth_estimator", "bandwidth_path", "bandwidth", "layers", "edges", "index", "queue", "references", "codec", "contiguity", "metadata", "buffer", "numbers", "jitter", "datagrams", "receiver", "session_formats", "session_requests", "session_stream", "session", "sending",
            "payloader", "buffer_runs", "datagram_runs", "forward_runs", "session_runs", "server_runs"]
-# The library for C, and runs that do the same as those of `datagram_runs`, with one more clause.
-NOT_HERE = {"handle", "c", "c_packets", "c_receiving", "timely_runs"}
+# Runs that do the same as those of `datagram_runs`, with one more clause.
+NOT_HERE = {"timely_runs"}
+# The crates of the library for C, and the module of rust-c that each becomes.
+C_LIBRARY = {"handle": "handle", "c_packets": "packets", "c_receiving": "receiving", "c": "calls"}
 # Names the users' modules of the library again.
 FACADE = "core"
 # The module below which a crate's modules go. Modules of all other crates go to the root.
@@ -12,12 +14,12 @@ PLACES = {"index": "index", "metadata": "metadata", "queue": "queue", "syntax": 
           "buffer_runs": "schedule", "datagram_runs": "schedule::datagrams", "forward_runs": "schedule::forwarded", "session_runs": "session::runs", "server_runs": "schedule::served"}
 # Crates below others whose modules stand among those of a crate above: for each module, that crate.
 HOMES = {"bandwidth_pacer": {"pacer": "bandwidth", "resends": "bandwidth"}, "bandwidth_layers": {"chooser": "bandwidth"},
-         "bandwidth_estimate": {"arrivals": "bandwidth", "delays": "bandwidth", "losses": "bandwidth", "rate": "bandwidth"}, "bandwidth_estimator": {"estimator": "bandwidth"},
+         "bandwidth_estimate": {"arrivals": "bandwidth", "delays": "bandwidth", "losses": "bandwidth", "rate": "bandwidth"}, "bandwidth_estimator": {"estimator": "bandwidth"}, "bandwidth_path": {"departures": "bandwidth", "path": "bandwidth"},
          "numbers": {"noted_times": "jitter", "numbers": "jitter", "seen_times": "receiver", "statistics": "receiver", "windows": "receiver"},
          "datagrams": {"choice": "receiver", "kinds": "receiver", "parsed": "receiver"},
          "session_formats": {"checks": "session", "formats": "session", "names": "session", "sort": "session"},
          "session_requests": {"late": "session", "named": "session", "requests": "session", "transports": "session"},
-         "session_stream": {"arrival": "session", "changes": "session", "dues": "session", "events": "session", "pairs": "session", "renegotiation": "session", "reports": "session", "stream": "session", "telephone": "session", "times": "session", "waking": "session"}}
+         "session_stream": {"arrival": "session", "changes": "session", "dues": "session", "events": "session", "pairs": "session", "renegotiation": "session", "reports": "session", "stream": "session", "telephone": "session", "times": "session", "trips": "session", "waking": "session"}}
 # Names of lower crates that are public for the crates above alone. In the one crate no user sees them.
 WITHIN_CRATE = {
     ("metadata", "known.rt"): "are_plain drop_rare is_plain last_sender_info marker number plain_meta received seq_no take time values",
@@ -46,6 +48,7 @@ WITHIN_CRATE = {
     ("session_stream", "stream.rt"): "Step StreamState Turn begin info is_former is_left_behind is_no_memory is_nothing is_on_probation is_playing leave_if request_keyframe set_round_trip_if step take wait_if",
     ("session_stream", "telephone.rt"): "Noted TelephonePacket TelephoneQueue dropped is_empty none note settle take",
     ("session_stream", "times.rt"): "earlier",
+    ("session_stream", "trips.rt"): "tell_all tell_round_trip",
     ("session_stream", "waking.rt"): "Waking except find forget grow holds step_due step_excepted unknown",
 }
 # Modules with another name in the one crate.
@@ -90,3 +93,9 @@ def place(crate, module, passed_on):
         return module
     name = RENAMED_MODULES.get((crate, module), module)
     return "::".join(part for part in (PLACES.get(crate, ""), name) if part)
+
+
+def may_grow(f):
+    """The mark of an enum of this file that later versions may extend. rust-c follows each version of the library, and has an arm for
+    each variant."""
+    return '#[cfg_attr(not(feature = "exhaustive"), non_exhaustive)]' if f.is_library and f.has_users else "#[non_exhaustive]"

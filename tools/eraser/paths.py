@@ -63,12 +63,25 @@ def rename_types(f, crate, module):
     for (of, home, old), new in RENAMED_TYPES.items():
         if (of, home) != (crate, module) and not imports(f, crate, of, home, old):
             continue
+        if not f.has_users:
+            rename_import(f, home, old, new)
+            continue
         skipped = foreign_uses(f, home, old)
         for place, t in enumerate(f.ts):
             if t.kind == "word" and t.text == old and place not in skipped:
                 t.text = new
             if "//" in t.pre:
                 t.pre = re.sub(rf"`{old}\b", f"`{new}", t.pre)
+
+
+def rename_import(f, home, old, new):
+    """Keeps the name of a type in a file of the library for C, which has types of its own with the new name."""
+    for start, end, text in use_lines(f):
+        if f":: {home} ::" in text:
+            for place in range(end - 1, start, -1):
+                if f.ts[place].text == old:
+                    f.ts[place:place + 1] = tokens(f"{f.ts[place].pre}{new} as {old}")[:-1]
+            return
 
 
 def imports(f, crate, of, home, name):

@@ -1,6 +1,7 @@
 """A source file on its way to Rust, and how to find and drop the items in it."""
 import re
 
+from layout import C_LIBRARY
 from tokens import CLOSE, OPEN, Refused, angles, close, joined, opens, plain, tokens
 
 
@@ -15,6 +16,8 @@ class File:
         self.path, self.known = path, known
         # In the library no call may abort with the feature `fallible`; a program may.
         self.is_library = path.startswith("crates/codec_payload_")
+        # No user in Rust reaches what the library for C has.
+        self.has_users = not re.match(r"crates/codec_payload_(%s)/" % "|".join(C_LIBRARY), path)
         self.asks = []  # (name of a public function, its premises)
         self.needs = set()  # of crate::memory
 

@@ -50,9 +50,9 @@ CHOSEN = {
     ("repeats", 64): ("a packet that is held", 2_900),
     ("times", 1): ("a frame whose time is anywhere", 3_600),
     ("blocks", 32): ("RED with 32 blocks, all of lost packets", 50_000),
-    ("requests", 350): ("RTCP: a NACK with 350 pairs", 920),
-    ("reports", 1): ("RTCP: a receiver report of 31 blocks", 880),
-    ("goodbyes", 11): ("RTCP: BYE of 341 SSRCs", 11_900),
+    ("requests", 350): ("RTCP: a NACK with 350 pairs", 1_350),
+    ("reports", 1): ("RTCP: a receiver report of 31 blocks", 1_300),
+    ("goodbyes", 11): ("RTCP: BYE of 341 SSRCs", 15_500),
     ("numbered", 4_000): ("a packet with a transport-wide number, behind 4,000 of them", 4_050),
     ("strays", 1_000): ("a packet of a new SSRC, all 64 places taken by senders of one packet", 38_000),
 }

@@ -8,3 +8,5 @@ pub use Rattle.codec_payload_bandwidth_pacer.specs.Pacing
 pub use Rattle.codec_payload_bandwidth_pacer.specs.ResendRuns
 pub use Rattle.codec_payload_bandwidth_pacer.specs.Resending
 pub use Rattle.codec_payload_bandwidth_pacer.specs.Runs
+pub use Rattle.codec_payload_bandwidth_path.specs.Departures
+pub use Rattle.codec_payload_bandwidth_path.specs.Paths

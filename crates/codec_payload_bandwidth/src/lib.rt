@@ -6,3 +6,4 @@ pub use codec_payload_bandwidth_estimate::{arrivals, delays, losses, rate};
 pub use codec_payload_bandwidth_estimator::estimator;
 pub use codec_payload_bandwidth_layers::chooser;
 pub use codec_payload_bandwidth_pacer::{pacer, resends};
+pub use codec_payload_bandwidth_path::path;

@@ -1,5 +1,5 @@
 mod ApartLemmas
 mod BytesLemmas
 mod DueLemmas
-mod RunLemmas
-mod ShareLemmas
+pub mod RunLemmas
+pub mod ShareLemmas

@@ -1,12 +1,12 @@
-//! RTCP packets that are written: reports with their blocks, a canonical name, and a request for a keyframe.
+//! RTCP packets that are written: reports with their blocks, a canonical name, requests for keyframes, and a BYE.
 
 ghost use Rattle.std.specs.Prelude.{◌≡◌, ◌≢◌};
-ghost use Rattle.codec_payload_rtcp.specs.RtcpPackets.{picture_loss};
-ghost use Rattle.codec_payload_c_packets.specs.RtcpWriting.{WritesName, WritesPacket, WritesReceiver, WritesSender, loss_of};
+ghost use Rattle.codec_payload_rtcp.specs.RtcpPackets.{full_intra, picture_loss};
+ghost use Rattle.codec_payload_c_packets.specs.RtcpWriting.{WritesBye, WritesName, WritesPacket, WritesReceiver, WritesSender, intra_of, loss_of};
 
 use codec_payload_c_packets::congestion::put_packet;
 use codec_payload_c_packets::rtcp_writing::{
-    blocks_fit, name_packet, receiver_packet, sender_packet,
+    blocks_fit, bye_packet, intra_packet, name_packet, receiver_packet, sender_packet,
 };
 use codec_payload_c_packets::sender::SenderReportInfo;
 use codec_payload_handle::report_block::ReportBlockInfo;
@@ -34,6 +34,48 @@ pub extern "C" fn cpay_write_pli(
     let mut packet = Vec::new(alloc);
     match loss.write(&mut packet) {
         Ok(()) => put_packet(&packet, bytes, size),
+        Err(_) => status::OUT_OF_MEMORY,
+    }
+}
+
+/// Writes a FIR: the sender of the stream is asked for a keyframe.
+#[unsafe(no_mangle)]
+pub extern "C" fn cpay_write_fir(
+    alloc: Global,
+    sender_ssrc: u32,
+    media_ssrc: u32,
+    command: u8,
+    bytes: &mut [u8],
+    size: &mut usize,
+) -> u32
+    ensures writes { WritesPacket (full_intra (intra_of sender_ssrc media_ssrc command)) result (record { before = bytes.old; bytes = bytes.new; size_before = size.old; size = size.new }) }
+    ensures untouched { result ≢ 0 → bytes.new ≡ bytes.old }
+    ensures unchanged { result ≢ 0 → result ≢ 33 → size.new ≡ size.old }
+{
+    match intra_packet(alloc, sender_ssrc, media_ssrc, command) {
+        Ok(packet) => put_packet(&packet, bytes, size),
+        Err(_) => status::OUT_OF_MEMORY,
+    }
+}
+
+/// Writes a BYE: a source leaves, for this reason if it has bytes.
+#[unsafe(no_mangle)]
+pub extern "C" fn cpay_write_bye(
+    alloc: Global,
+    ssrc: u32,
+    reason: &[u8],
+    bytes: &mut [u8],
+    size: &mut usize,
+) -> u32
+    ensures writes { WritesBye ssrc reason.now result (record { before = bytes.old; bytes = bytes.new; size_before = size.old; size = size.new }) }
+    ensures untouched { result ≢ 0 → bytes.new ≡ bytes.old }
+    ensures unchanged { result ≢ 0 → result ≢ 33 → size.new ≡ size.old }
+{
+    if reason.len() > 255 {
+        return status::INVALID;
+    }
+    match bye_packet(alloc, ssrc, reason) {
+        Ok(packet) => put_packet(&packet, bytes, size),
         Err(_) => status::OUT_OF_MEMORY,
     }
 }

@@ -16,6 +16,7 @@ pub mod RtcpWriting
 pub mod RtpFields
 pub mod Senders
 pub mod SentTransports
+pub mod SourceNames
 pub mod StreamSenders
 pub mod Tele
 pub mod TransportReporters

@@ -1,9 +1,11 @@
--- The calls that write RTCP packets: reports with their blocks, a canonical name, and a request for a keyframe.
-use Rattle.std.specs.Prelude.{◌≡◌, ◌⊎◌, ℕ, ◌/◌, ◌%◌, ◌&&◌, nat_le, nat_lt, Bool, true, false, List, [], length}
+-- The calls that write RTCP packets: reports with their blocks, a canonical name, requests for keyframes, and a BYE.
+use Rattle.std.specs.Prelude.{◌≡◌, ◌⊎◌, ℕ, ◌/◌, ◌%◌, ◌&&◌, nat_le, nat_lt, Bool, true, false, List, [], ◌∷◌, Option, Some, None, length}
 use Rattle.std.specs.List.{flat_map, list_all}
-use Rattle.codec_payload_rtcp.specs.RtcpItems.{block_bytes}
-use Rattle.codec_payload_rtcp.specs.RtcpPackets.{Feedback, Packet, Receiver, Sender, receiver_report, sender_report}
-use Rattle.codec_payload_rtcp.specs.RtcpWriting.{Appends, cname_chunk}
+use Rattle.std.specs.Int.{to_be_bytes, w32}
+use Rattle.codec_payload_rtcp.specs.RtcpItems.{block_bytes, entry_bytes}
+use Rattle.codec_payload_rtcp.specs.RtcpPackets.{Feedback, Leaving, Packet, Receiver, Sender, receiver_report, sender_report}
+use Rattle.codec_payload_rtcp.specs.RtcpWriting.{Appends, cname_chunk, leaving_bytes}
+use Rattle.codec_payload_rtcp.specs.declared.items.FullIntraEntry.{FullIntraEntry}
 use Rattle.codec_payload_rtcp.specs.SdesWriting.{description_bytes}
 use Rattle.codec_payload_rtcp.specs.declared.items.ReportBlock.{ReportBlock}
 use Rattle.codec_payload_c_packets.specs.Congestion.{IsUnwritten, PutsPacket}
@@ -55,6 +57,31 @@ block_list blocks = flat_map given_bytes blocks
 -- a PLI (RFC 4585, section 6.3.1)
 abbrev pub loss_of : (sender media : ℕ) → Feedback
 loss_of sender media = record { sender = sender; media = media; fci = [] }
+
+-- the entry of a full intra request
+abbrev pub entry_given : (media command : ℕ) → FullIntraEntry
+entry_given media command = record { ssrc = media; sequence_number = command }
+
+-- a full intra request for one stream (RFC 5104, section 4.3.1): the SSRC of the stream is in its entry, and that of the header is 0
+abbrev pub intra_of : (sender media command : ℕ) → Feedback
+intra_of sender media command = record { sender = sender; media = 0; fci = entry_bytes (entry_given media command) }
+
+-- no bytes are no reason
+abbrev pub reason_given : List ℕ → Option (List ℕ)
+reason_given [] = None
+reason_given (b ∷ bs) = Some (b ∷ bs)
+
+-- a BYE of one source (RFC 3550, section 6.6): a reason is filled with zeros to whole words
+abbrev pub bye_packet : ℕ → List ℕ → List ℕ
+bye_packet ssrc reason = leaving_bytes (record { ssrcs = to_be_bytes w32 ssrc; reason = reason_given reason })
+
+abbrev pub WritesByeIf : Bool → ℕ → List ℕ → ℕ → Writing → Type 0
+WritesByeIf true ssrc reason status w = PutsPacket (bye_packet ssrc reason) status w ⊎ ((status ≡ 17) × IsUnwritten w)
+WritesByeIf false ssrc reason status w = (status ≡ 37) × IsUnwritten w
+
+-- the reason has at most 255 bytes
+abbrev pub WritesBye : ℕ → List ℕ → ℕ → Writing → Type 0
+WritesBye ssrc reason status w = WritesByeIf (nat_le (length reason) 255) ssrc reason status w
 
 -- a sender report with these blocks, and no extension
 abbrev pub sender_given : ℕ → SenderReportInfo → List ReportBlockInfo → Sender

@@ -1,5 +1,6 @@
 -- The calls on a sender of datagrams.
 use Rattle.std.specs.Prelude.{◌≡◌, ◌≢◌, ℕ, ◌+◌, ◌-◌, ◌^◌, ◌&&◌, ◌++◌, nat_le, min, if◌then◌else◌, Bool, List, Option, Some, None, IfSome, is_some, length, drop}
+use Rattle.std.specs.Option.{unwrap_or}
 use Rattle.codec_payload_base.specs.declared.error.PacketError.{PacketError}
 use Rattle.codec_payload_base.specs.declared.wire.extension.ExtensionValues.{ExtensionValues}
 use Rattle.codec_payload_core.specs.Faults.{fault_number}
@@ -16,7 +17,6 @@ use Rattle.codec_payload_handle.specs.declared.object.Object.{Object}
 use Rattle.codec_payload_handle.specs.declared.object.Object.TheVariants as objects
 use Rattle.codec_payload_handle.specs.declared.object.StreamSender.{StreamSender}
 use Rattle.codec_payload_handle.specs.declared.settings.Spec.{Spec}
-use Rattle.codec_payload_handle.specs.Numbers.{given_if}
 use Rattle.codec_payload_handle.specs.Ids.{ids_given}
 use Rattle.codec_payload_c_packets.specs.declared.sender.Sample.{Sample as CSample}
 use Rattle.codec_payload_c_packets.specs.declared.sender.SenderCountsInfo.{SenderCountsInfo}
@@ -78,7 +78,8 @@ GivesDatagram (Some d) status before bytes size_before size =
 pub record TellsCounts (r : StreamSender) (c : SenderCountsInfo) : Type 0 where
   pub packets : c.packets ≡ r.sender.counts.packets
   pub octets : c.octets ≡ r.sender.counts.octets
-  pub rtp_time : r.sender.counts.rtp_time ≡ given_if c.has_rtp_time c.rtp_time
+  pub has_rtp_time : c.has_rtp_time ≡ is_some r.sender.counts.rtp_time
+  pub rtp_time : c.rtp_time ≡ unwrap_or r.sender.counts.rtp_time 0
   pub next_number : c.next_number ≡ r.sender.stream.number
 
 -- A datagram into the caller's bytes, and room for a tail of that size after it: 33 where the bytes are too few for both, and the

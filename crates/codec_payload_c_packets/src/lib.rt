@@ -20,6 +20,7 @@ pub mod rtcp_writing;
 pub mod rtp;
 pub mod sender;
 pub mod sent;
+pub mod source_names;
 pub mod tele;
 pub mod transport;
 pub mod vp8;

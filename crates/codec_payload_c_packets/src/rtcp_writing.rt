@@ -1,14 +1,15 @@
-//! RTCP packets that are written: reports with their blocks, a canonical name, and a request for a keyframe.
+//! RTCP packets that are written: reports with their blocks, a canonical name, requests for keyframes, and a BYE.
 
 ghost use Rattle.std.specs.Prelude.{◌≡◌, ◌*◌, ◌≤◌, ◌<◌, ◌+◌, ◌++◌, [], length, IfOk, IsTrue, OnOk};
-ghost use Rattle.codec_payload_rtcp.specs.RtcpPackets.{receiver_report, sender_report};
+ghost use Rattle.codec_payload_rtcp.specs.RtcpItems.{entry_bytes};
+ghost use Rattle.codec_payload_rtcp.specs.RtcpPackets.{full_intra, receiver_report, sender_report};
 ghost use Rattle.codec_payload_rtcp.specs.RtcpWriting.{Appends};
-ghost use Rattle.codec_payload_c_packets.specs.RtcpWriting.{block_given, block_list, blocks_fit, fits_24_bits, given_bytes, name_packet, receiver_given, sender_given};
+ghost use Rattle.codec_payload_c_packets.specs.RtcpWriting.{block_given, block_list, blocks_fit, bye_packet, entry_given, fits_24_bits, given_bytes, intra_of, name_packet, receiver_given, sender_given};
 
 use crate::sender::SenderReportInfo;
 use codec_payload_handle::report_block::ReportBlockInfo;
-use codec_payload_rtcp::items::ReportBlock;
-use codec_payload_rtcp::packet::{ReceiverReport, SenderReport};
+use codec_payload_rtcp::items::{FullIntraEntry, ReportBlock};
+use codec_payload_rtcp::packet::{FullIntraRequest, Goodbye, ReceiverReport, SenderReport};
 use codec_payload_rtcp::writing::write_cname;
 use std::alloc::{AllocError, Global};
 
@@ -124,5 +125,58 @@ pub fn name_packet(alloc: Global, ssrc: u32, cname: &[u8]) -> Result<Vec<u8>, Al
 {
     let mut packet = Vec::new(alloc);
     write_cname(ssrc, cname, &mut packet)?;
+    Ok(packet)
+}
+
+/// Returns the entry of a full intra request for this stream.
+fn entry_list(alloc: Global, media_ssrc: u32, command: u8) -> Result<Vec<u8>, AllocError>
+    ensures bytes { IfOk result (λ list. list.items ≡ entry_bytes (entry_given media_ssrc command)) }
+    ensures len { IfOk result (λ list. length list.items ≡ 8) }
+{
+    let mut list = Vec::new(alloc);
+    let entry = FullIntraEntry {
+        ssrc: media_ssrc,
+        sequence_number: command,
+    };
+    entry.write(&mut list)?;
+    Ok(list)
+}
+
+/// Returns a full intra request for one stream.
+pub fn intra_packet(
+    alloc: Global,
+    sender_ssrc: u32,
+    media_ssrc: u32,
+    command: u8,
+) -> Result<Vec<u8>, AllocError>
+    ensures { IfOk result (λ packet. Appends [] packet.items (full_intra (intra_of sender_ssrc media_ssrc command))) }
+{
+    let entries = entry_list(alloc, media_ssrc, command)?;
+    let mut packet = Vec::new(alloc);
+    let request = FullIntraRequest {
+        sender_ssrc,
+        media_ssrc: 0,
+        entries: &entries,
+    };
+    request.write(&mut packet)?;
+    Ok(packet)
+}
+
+/// Returns a BYE of one source, with this reason if it has bytes.
+pub fn bye_packet(alloc: Global, ssrc: u32, reason: &[u8]) -> Result<Vec<u8>, AllocError>
+    requires { length reason.now ≤ 255 }
+    ensures { IfOk result (λ packet. packet.items ≡ bye_packet ssrc reason.now) }
+{
+    let ssrcs = ssrc.to_be_bytes();
+    let mut packet = Vec::new(alloc);
+    let leaving = Goodbye {
+        ssrcs: &ssrcs,
+        reason: if reason.is_empty() {
+            None
+        } else {
+            Some(reason)
+        },
+    };
+    leaving.write(&mut packet)?;
     Ok(packet)
 }

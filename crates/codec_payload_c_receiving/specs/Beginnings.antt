@@ -97,6 +97,7 @@ pub record IsFeedback (f : SessionFeedback) : Type 0 where
   pub has_report : f.has_report ≡ false
   pub has_longest_wait : f.has_longest_wait ≡ true
   pub has_report_interval : f.has_report_interval ≡ true
+  pub extended : f.extended ≡ true
 
 -- 20 to 400 ms, at first 200 ms; a packet is lost after 1 s
 abbrev pub live_adaptive_wait : AdaptiveWaitSettings

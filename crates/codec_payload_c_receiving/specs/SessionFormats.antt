@@ -84,6 +84,7 @@ pub record HasFeedback (c : SessionFeedback) (t : FeedbackSettings) : Type 0 whe
   pub longest_wait : t.longest_wait ≡ given_if c.has_longest_wait c.longest_wait
   pub report_interval : t.report_interval ≡ given_if c.has_report_interval c.report_interval
   pub max_report : t.max_report ≡ c.max_report
+  pub extended : t.extended ≡ c.extended
   pub nack : t.nack ≡ record { first_wait = c.first_wait; retry = c.retry; shortest_retry = c.shortest_retry; longest_retry = c.longest_retry; tries = c.tries; capacity = c.capacity }
 
 -- the settings of requests, if they are set

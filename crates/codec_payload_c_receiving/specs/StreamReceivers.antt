@@ -310,7 +310,8 @@ pub record TellsCounts (s : Session) (waits : Bool) (c : ReceiverCountsInfo) : T
   pub undecodable : c.undecodable ≡ s.gates.undecodable
   pub held : c.held ≡ length s.packets.buffer.held
   pub waiting : c.waiting ≡ waits
-  pub ssrc : s.ssrc ≡ given_if c.has_ssrc c.ssrc
+  pub has_ssrc : c.has_ssrc ≡ is_some s.ssrc
+  pub ssrc : c.ssrc ≡ unwrap_or s.ssrc 0
 
 -- the fields of a receiver report
 abbrev pub TellsReport : Option ReceptionReport → ℕ → (before after : ReportInfo) → Type 0

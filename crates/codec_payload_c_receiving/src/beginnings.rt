@@ -195,6 +195,7 @@ pub fn unnamed_feedback() -> SessionFeedback
         has_report: false,
         has_longest_wait: true,
         has_report_interval: true,
+        extended: true,
     }
 }
 

@@ -100,6 +100,8 @@ pub struct SessionFeedback {
     pub has_longest_wait: bool,
     /// Whether `report_interval` is set. If not, no reports are sent.
     pub has_report_interval: bool,
+    /// Whether reports also measure the round trip.
+    pub extended: bool,
 }
 
 /// How the arrivals of packets are reported.
@@ -335,6 +337,7 @@ fn feedback_of(
             None
         },
         max_report: feedback.max_report,
+        extended: feedback.extended,
     }))
 }
 

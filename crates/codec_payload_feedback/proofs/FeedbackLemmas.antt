@@ -39,7 +39,7 @@ unfolding numbers_in
 no_numbers = refl
 
 pub nack_none : (sender media : ℕ) (numbers old : List ℕ) → (length numbers == 0) ≡ true → AppendsNack sender media numbers old old
-nack_none sender media [] old is = ([], no_numbers, none_more old)
+nack_none sender media [] old is = ([], record { names = no_numbers; fewest = λ other same. omega arith }, none_more old)
 nack_none sender media (n ∷ ns) old is = absurd (grind (arith, nat_tests))
 
 -- numbers, and few of them, have pairs that a NACK can carry

@@ -70,10 +70,15 @@ abbrev pub keyframe_part : ℕ → ℕ → Bool → List Packet
 keyframe_part sender media true = picture_loss (record { sender = sender; media = media; fci = [] }) ∷ []
 keyframe_part sender media false = []
 
--- a NACK whose pairs name exactly these numbers, in their order; without numbers nothing
+-- pairs that name exactly these numbers, in their order (RFC 4585, section 6.2.1), and no fewer bytes name them
+pub record AreFewest (numbers pairs : List ℕ) : Type 0 where
+  pub names : numbers_in pairs ≡ numbers
+  pub fewest : (other : List ℕ) → numbers_in other ≡ numbers → length pairs ≤ length other
+
+-- a NACK of the fewest pairs that name exactly these numbers, in their order; without numbers nothing
 abbrev pub AppendsNack : ℕ → ℕ → List ℕ → List ℕ → List ℕ → Type 0
 AppendsNack sender media numbers old new =
-    (pairs : List ℕ) × (numbers_in pairs ≡ numbers) × AppendsAll (nack_by sender media numbers pairs) old new
+    (pairs : List ℕ) × AreFewest numbers pairs × AppendsAll (nack_by sender media numbers pairs) old new
 
 -- the packets of a source with these requests
 abbrev pub packets_of : Source → ℕ → List ℕ → List ℕ → Bool → List Packet
@@ -85,11 +90,11 @@ abbrev pub has_any : List ℕ → Bool → Bool
 has_any [] keyframe = keyframe
 has_any (n ∷ ns) keyframe = true
 
--- packets one after another, of which the NACK names exactly the numbers; none exactly if nothing is requested
+-- packets one after another, of which the NACK names exactly the numbers, by the fewest pairs; none exactly if nothing is requested
 abbrev pub IsFeedback : Source → ℕ → List ℕ → Bool → Option (List ℕ) → Type 0
 IsFeedback s media numbers keyframe None = has_any numbers keyframe ≡ false
 IsFeedback s media numbers keyframe (Some bytes) =
-    (has_any numbers keyframe ≡ true) × (pairs : List ℕ) × (numbers_in pairs ≡ numbers) × AreUnpadded (packets_of s media numbers pairs keyframe) bytes
+    (has_any numbers keyframe ≡ true) × (pairs : List ℕ) × AreFewest numbers pairs × AreUnpadded (packets_of s media numbers pairs keyframe) bytes
 
 -- ---- calls
 

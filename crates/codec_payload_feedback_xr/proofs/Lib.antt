@@ -1,3 +1,4 @@
+mod ExchangeLemmas
 mod TimeLemmas
 mod XrGrammar
 mod XrLemmas

@@ -1,3 +1,4 @@
+pub mod Exchange
 pub mod RoundTrip
 pub mod Xr
 pub mod XrReading

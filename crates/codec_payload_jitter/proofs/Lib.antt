@@ -8,5 +8,7 @@ pub mod RestartingLemmas
 pub mod OwnLemmas
 pub mod FormerLemmas
 pub mod StayingLemmas
+pub mod RangeLemmas
 pub mod KeptLemmas
 pub mod KeptStores
+pub mod RangeStores

@@ -53,3 +53,12 @@ touched n k = if nat_lt n k.high then record k { from = min k.from n; to = max k
 abbrev pub touched_if : Option ℕ → Kept → Kept
 touched_if None k = k
 touched_if (Some n) k = touched n k
+
+-- the numbers from `first` up to `end`, exclusive, may have changed
+abbrev pub touched_range : ℕ → ℕ → Kept → Kept
+touched_range first end k = if nat_lt first k.high then record k { from = min k.from first; to = max k.to end } else k
+
+-- all numbers from this one on may have changed
+abbrev pub touched_from : Option ℕ → Kept → Kept
+touched_from None k = k
+touched_from (Some n) k = touched_range n k.high k

@@ -2,6 +2,7 @@ pub mod NoMediaNumbers
 pub mod Missing
 pub mod Pressure
 pub mod Receiving
+pub mod Suspects
 pub mod Restarts
 pub mod Runs
 pub mod Waiting
@@ -9,3 +10,4 @@ pub mod OwnReceiving
 pub mod Staying
 pub mod KeptMissing
 pub mod KeptRenewing
+pub mod NotedRanges

@@ -2,7 +2,7 @@
 
 ghost use Rattle.std.specs.Prelude.{◌≡◌, ◌≤◌, ◌++◌, OnOk, IfOk, false, length, take};
 ghost use Rattle.codec_payload_buffer.specs.Steps.{IsSound, is_at_most};
-ghost use Rattle.codec_payload_jitter.specs.KeptMissing.{Keeps, nothing_kept, touched, touched_if, within};
+ghost use Rattle.codec_payload_jitter.specs.KeptMissing.{Keeps, nothing_kept, touched, touched_from, touched_if, touched_range, within};
 ghost use Rattle.codec_payload_jitter.specs.KeptRenewing.{Extends, IsExact, changed_from, raised};
 ghost use Rattle.codec_payload_jitter.specs.Missing.{absent_between};
 
@@ -80,6 +80,26 @@ impl KeptMissing {
     {
         if let Some(number) = number {
             self.touch(number);
+        }
+    }
+
+    /// Records that the numbers from `first` up to `end`, exclusive, may have changed. A call for the first and one for the last of them
+    /// would not do: a number from `high` on is left out.
+    pub(crate) fn touch_range(&mut self, first: u64, end: u64)
+        ensures { self.new ≡ touched_range first end self.old }
+    {
+        if first < self.high {
+            self.from = self.from.min(first);
+            self.to = self.to.max(end);
+        }
+    }
+
+    /// Records that all numbers from this one on may have changed, if there is one.
+    pub(crate) fn touch_from(&mut self, first: Option<u64>)
+        ensures { self.new ≡ touched_from first self.old }
+    {
+        if let Some(first) = first {
+            self.touch_range(first, self.high);
         }
     }
 

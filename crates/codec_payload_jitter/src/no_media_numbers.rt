@@ -1,11 +1,13 @@
 //! Numbers that carry no media: packets with padding only, and telephone events beside audio.
 
-ghost use Rattle.std.specs.Prelude.{◌≡◌, ◌<◌, ◌==◌, [], length, OnOk};
+ghost use Rattle.std.specs.Prelude.{◌≡◌, ◌<◌, ◌==◌, ◌++◌, [], length, IfOk, OnErr, OnOk};
 ghost use Rattle.std.specs.Vec.{vec_len, vec_capacity};
 ghost use Rattle.std.specs.Option.{option_map};
 ghost use Rattle.codec_payload_buffer.specs.Blanks.{is_right_after};
 ghost use Rattle.codec_payload_buffer.specs.Steps.{is_at_most};
-ghost use Rattle.codec_payload_jitter.specs.NoMediaNumbers.{below, no_media_in, kept_few, noted_no_media, is_done, passed_no_media, no_media_left, is_in};
+ghost use Rattle.codec_payload_jitter.specs.NoMediaNumbers.{below, no_media_in, kept_few, noted_no_media, is_done, passed_no_media, no_media_left, is_in, Rises};
+ghost use Rattle.codec_payload_jitter.specs.NotedRanges.{latest_few, lowest_if_crowded, more_between, no_media_between, noted_between, numbers_below, numbers_from_on};
+ghost use Rattle.codec_payload_jitter.specs.Missing.{numbers_between};
 ghost use Rattle.codec_payload_jitter.specs.Staying.{lowest_if_full};
 
 pub use crate::theorems::passes_no_media_alone;
@@ -68,6 +70,33 @@ impl NoMediaNumbers {
         ensures { self.new.items ≡ noted_no_media number self.old.items }
     {
         note_in_room(&mut self.numbers, number);
+    }
+
+    /// Notes the numbers from `first` up to `end`, exclusive, in one pass. If there are then too many, the lowest are forgotten. Returns how
+    /// many of the range were not noted before. If memory runs out, nothing changes.
+    pub(crate) fn note_range(&mut self, first: u64, end: u64) -> Result<usize, AllocError>
+        requires { first < end }
+        ensures items { OnOk result (self.new.items ≡ noted_between first end self.old.items) }
+        ensures count { IfOk result (λ count. count ≡ more_between first end self.old.items) }
+        ensures err { OnErr result (self.new.items ≡ self.old.items) }
+        ensures rises { Rises self.old.items }
+    {
+        let all = with_range(&self.numbers, first, end)?;
+        let more = all.len().saturating_sub(self.numbers.len());
+        self.numbers = latest_of(all)?;
+        Ok(more)
+    }
+
+    /// Returns the lowest number, if `count` further numbers may not be noted without forgetting some.
+    pub(crate) fn lowest_if_crowded(&self, count: u64) -> Option<u64>
+        ensures { result ≡ lowest_if_crowded count self.now.items }
+    {
+        match self.numbers.first() {
+            Some(lowest) if count.saturating_add(self.numbers.len() as u64) > MOST as u64 => {
+                Some(*lowest)
+            }
+            _ => None,
+        }
     }
 
     /// Returns the lowest number, if no further number can be noted without forgetting it.
@@ -140,6 +169,63 @@ fn place_in(no_media_numbers: &[u64], number: u64) -> usize
         }
     }
     no_media_numbers.len()
+}
+
+/// Returns the numbers below `first`, those from `first` up to `end`, exclusive, and the numbers from `end` on.
+fn with_range(numbers: &Vec<u64>, first: u64, end: u64) -> Result<Vec<u64>, AllocError>
+    ensures { IfOk result (λ all. all.items ≡ no_media_between first end numbers.now.items) }
+{
+    let mut all = Vec::new(*numbers.allocator());
+    append_below(numbers, first, &mut all)?;
+    append_range(first, end, &mut all)?;
+    append_from(numbers, end, &mut all)?;
+    Ok(all)
+}
+
+/// Appends the numbers below `first`.
+fn append_below(numbers: &[u64], first: u64, out: &mut Vec<u64>) -> Result<(), AllocError>
+    ensures { OnOk result (out.new.items ≡ out.old.items ++ numbers_below first numbers.now) }
+{
+    for number in numbers {
+        if *number < first {
+            out.push(*number)?;
+        }
+    }
+    Ok(())
+}
+
+/// Appends all numbers from `first` up to `end`, exclusive.
+#[tactic(auto, using(crate::proofs::RangeLemmas::between_next, crate::proofs::RangeLemmas::between_none))]
+fn append_range(first: u64, end: u64, out: &mut Vec<u64>) -> Result<(), AllocError>
+    ensures { OnOk result (out.new.items ≡ out.old.items ++ numbers_between first end) }
+{
+    for number in first..end {
+        out.push(number)?;
+    }
+    Ok(())
+}
+
+/// Appends the numbers from `end` on.
+fn append_from(numbers: &[u64], end: u64, out: &mut Vec<u64>) -> Result<(), AllocError>
+    ensures { OnOk result (out.new.items ≡ out.old.items ++ numbers_from_on end numbers.now) }
+{
+    for number in numbers {
+        if *number >= end {
+            out.push(*number)?;
+        }
+    }
+    Ok(())
+}
+
+/// Returns the highest numbers, as many as are remembered.
+fn latest_of(numbers: Vec<u64>) -> Result<Vec<u64>, AllocError>
+    ensures { IfOk result (λ kept. kept.items ≡ latest_few numbers.items) }
+{
+    if numbers.len() <= MOST {
+        return Ok(numbers);
+    }
+    let above = numbers.len() - MOST;
+    Vec::from_slice(*numbers.allocator(), &numbers[above..])
 }
 
 /// Moves the cutoff of the buffer past the numbers without media that come right after it, and forgets these numbers.

@@ -15,7 +15,7 @@ use Rattle.codec_payload_keyframes.proofs.LayerLemmas.{layer_fits}
 use Rattle.codec_payload_receiver.specs.KeyframeRuns.{DatagramsLeaveTheGate, DropsFollowKeyframes, GateRun, PopsFollowKeyframes, answer_events, begins, fault_events, others, pop_events, pops, restarts}
 use Rattle.codec_payload_datagrams.specs.Kinds.{Datagram}
 use Rattle.codec_payload_receiver.specs.Pops.{Answer, after_fault, gates_after, gates_if, has_left, is_large, is_memory}
-use Rattle.codec_payload_receiver.specs.Sessions.{Finishes, HearsIf, Heard, Keeps, ReceivesBy, ReceivesBytes, Session, SettlesOn, first_waiting, opened_if}
+use Rattle.codec_payload_receiver.specs.Sessions.{ChoosesIf, Finishes, Heard, Keeps, ReceivesBy, ReceivesBytes, Session, SettlesOn, first_waiting, opened_if}
 use Rattle.codec_payload_datagrams.specs.declared.choice.Candidate.{Candidate}
 use Rattle.codec_payload_datagrams.specs.declared.choice.Verdict.{Verdict}
 use Rattle.codec_payload_datagrams.specs.declared.choice.Verdict.TheVariants as verdicts
@@ -84,10 +84,6 @@ settles_leaves None whole s t settles = ap (λ (x : Session). x.gates) settles.1
 settles_leaves (Some c) true s t settles = ap (λ (x : Session). x.gates) settles.left ∙ heard_leaves c.received _ _ settles.mid settles.answer settles.heard
 settles_leaves (Some c) false s t settles = ap (λ (x : Session). x.gates) settles
 
-hears_leaves : (whole : Bool) (now : Ticks) (bytes : List ℕ) (s t : Session) (answer : Result Outcome ReceiveError) → HearsIf whole now bytes s answer t → t.gates ≡ s.gates
-hears_leaves true now bytes s t answer hears = heard_leaves now _ s t answer hears
-hears_leaves false now bytes s t answer hears = ap (λ (x : Session). x.gates) hears.1
-
 keeps_leaves : (now : Ticks) (bytes : List ℕ) (s t : Session) (answer : Result Outcome ReceiveError) (o : _) → Keeps now o bytes s answer t → t.gates ≡ s.gates
 keeps_leaves now bytes s t (Ok outcome) o keeps = ap (λ (x : Session). x.gates) keeps.1.left
 keeps_leaves now bytes s t (Err fault) o keeps = ap (λ (x : Session). x.gates) keeps.1
@@ -96,11 +92,14 @@ opened_leaves : (b : Bool) (s : Session) → (opened_if b s).gates ≡ s.gates
 opened_leaves true s = refl
 opened_leaves false s = refl
 
+chooses_leaves : (whole : Bool) (place : ℕ) (now : Ticks) (bytes : List ℕ) (s : Session) (answer : Result Outcome ReceiveError) (t : Session) → ChoosesIf whole place now bytes s answer t → t.gates ≡ s.gates
+chooses_leaves true place now bytes s answer t got = heard_leaves now _ got.0 t answer got.2 ∙ settles_leaves _ true _ got.0 got.1 ∙ opened_leaves _ s
+chooses_leaves false place now bytes s answer t got = ap (λ (x : Session). x.gates) got.1
+
 receives_by_leaves : (v : Verdict) (now : Ticks) (bytes : List ℕ) (s : Session) (answer : Result Outcome ReceiveError) (t : Session) → ReceivesBy v now bytes s answer t → t.gates ≡ s.gates
 receives_by_leaves verdicts.Hear now bytes s answer t got = heard_leaves now _ s t answer got
 receives_by_leaves (verdicts.Keep o) now bytes s answer t got = keeps_leaves now bytes s t answer o got
-receives_by_leaves (verdicts.Choose place) now bytes s answer t got =
-    hears_leaves got.whole now bytes got.mid t answer got.hears ∙ settles_leaves _ got.whole _ got.mid got.settles ∙ opened_leaves _ s
+receives_by_leaves (verdicts.Choose place) now bytes s answer t got = chooses_leaves got.whole place now bytes s answer t got.chooses
 
 receives_leaves : (now : Ticks) (bytes : List ℕ) (s : Session) (answer : Result Outcome ReceiveError) (t : Session) → ReceivesBytes now bytes s answer t → t.gates ≡ s.gates
 receives_leaves now bytes s answer t (inl got) = receives_by_leaves _ now bytes s answer t got

@@ -1,5 +1,6 @@
 -- Every datagram is accounted for.
-use Rattle.std.proofs.Common.{◌≡◌, ◌⊎◌, ◌∙◌, refl, ap, sym, subst, inl, inr, cond, ℕ, ◌+◌, ◌%◌, ◌^◌, List, [], ◌∷◌, Bool, true, false, Option, Some, None, Result, Ok, Err, arith, ◌&&◌, not}
+use Rattle.std.proofs.Common.{◌≡◌, ◌⊎◌, ◌∙◌, refl, ap, sym, subst, inl, inr, cond, ℕ, ◌+◌, ◌%◌, ◌^◌, List, [], ◌∷◌, Bool, true, false, Option, Some, None, Result, Ok, Err, arith, ◌&&◌, ◌==◌, not}
+use Rattle.std.proofs.lemmas.Bool.Decides.{nat_tests}
 use Rattle.codec_payload_base.specs.declared.wire.Ticks.{Ticks}
 use Rattle.codec_payload_jitter.specs.Receiving.{Receiving, Arrival, Confirms, GoesOn, ReceivesAs, ReceivesAgainAs, RecoversAs, RecoversIf, NotesAs, would_store}
 use Rattle.codec_payload_jitter.specs.Receiving.{Accepts, counted, counted_again, counted_in_again, is_stored, may_recover, next, number_again_for}
@@ -9,11 +10,11 @@ use Rattle.codec_payload_jitter.specs.declared.outcome.Outcome.{Outcome}
 use Rattle.codec_payload_jitter.specs.declared.outcome.Outcome.TheVariants as outcomes
 use Rattle.codec_payload_jitter.specs.declared.outcome.PacketCounters.{PacketCounters}
 use Rattle.codec_payload_datagrams.specs.Choice.{latest_after, origin_of}
-use Rattle.codec_payload_datagrams.specs.Kinds.{Kinds, Carrier, Datagram, RtcpPacket, Malformed, OfOthers, WithoutMedia, WithMedia, InRed, Again, AgainInRed, AgainEmpty}
+use Rattle.codec_payload_datagrams.specs.Kinds.{Kinds, Carrier, Datagram, RtcpPacket, Malformed, OfOthers, WithoutMedia, WithMedia, InRed, Again, AgainInRed, AgainEmpty, takes_memory}
 use Rattle.codec_payload_receiver.specs.Noting.{notes_after}
 use Rattle.codec_payload_numbers.specs.SeenTimes.{Seen, is_seen}
 use Rattle.codec_payload_receiver.specs.Sessions.{Holding, NotesAgain, Session, TakesAgain, TakesDatagram, TakesMedia, TakesPrimaryAgain, TakesPrimaryIf, RecoversOne, RecoversUnseen, RecoversAll, RecoversUnless, AnswersFor}
-use Rattle.codec_payload_receiver.specs.Sessions.{Heard, IsSorted, all_carried, arrived_with, ssrc_after, is_own_media, is_repeat, is_suspect, error_of, reception_after, told_of_red}
+use Rattle.codec_payload_receiver.specs.Sessions.{Heard, IsSorted, all_carried, arrived_with, has_restarted, ssrc_after, is_own_media, is_repeat, is_suspect, error_of, reception_after, told_of_red}
 use Rattle.codec_payload_datagrams.specs.declared.kinds.Malformation.{Malformation}
 use Rattle.codec_payload_datagrams.specs.declared.kinds.Malformation.TheVariants as malformations
 use Rattle.codec_payload_receiver.specs.declared.receiver.Arrived.{Arrived}
@@ -208,6 +209,28 @@ takes_balanced s now a (AgainInRed c) r t o whole got kept =
     (pushed_balanced a r.packets got.0 (primary_again_balance (is_own_media s c) s now c r.seen r.packets got.0 o got.1) kept)
 takes_balanced s now a AgainEmpty r t o whole got kept = pushed_balanced a r.packets t.packets (ap (λ (x : Holding). balance_of x.packets) got.1) kept
 
+-- Restarts
+
+different : (n : ℕ) → not (n == n) ≡ true → ⊥
+different n is = grind (arith, nat_tests)
+
+none_restarts : (r t : Receiving) → t ≡ r → has_restarted r t ≡ true → ⊥
+none_restarts r t same restarts = different (r.counters.restarts) (subst (λ (x : Receiving). has_restarted r x ≡ true) same restarts)
+
+-- a datagram that confirms a restart is of a kind that takes memory
+pub restarts_with_memory : (s : Kinds) (now : Ticks) (d : Datagram) (r : Holding) (o : Outcome) (whole : Bool) (t : Holding) → TakesDatagram s now d r o whole t
+    → has_restarted r.packets t.packets ≡ true → takes_memory d ≡ true
+restarts_with_memory s now RtcpPacket r o whole t got restarts = absurd (none_restarts r.packets t.packets (ap (λ (x : Holding). x.packets) got.1) restarts)
+restarts_with_memory s now (Malformed e) r o whole t got restarts = absurd (none_restarts r.packets t.packets (ap (λ (x : Holding). x.packets) got) restarts)
+restarts_with_memory s now OfOthers r o whole t got restarts = absurd (none_restarts r.packets t.packets (ap (λ (x : Holding). x.packets) got.1) restarts)
+restarts_with_memory s now (WithoutMedia h) r o whole t got restarts = refl
+restarts_with_memory s now (WithMedia p) r o whole t got restarts = refl
+restarts_with_memory s now (InRed c) r o whole t got restarts = refl
+restarts_with_memory s now (Again it) r o whole t got restarts = refl
+restarts_with_memory s now (AgainInRed c) r o whole t got restarts = refl
+restarts_with_memory s now AgainEmpty r o whole t got restarts =
+    absurd (different r.packets.counters.restarts (subst (λ (x : Holding). has_restarted r.packets x.packets ≡ true) got.1 restarts))
+
 -- Answers
 
 not_memory_of : (e : Malformation) → error_of e ≡ errors.OutOfMemory → ⊥
@@ -239,7 +262,7 @@ pub heard : (now : Ticks) (d : Datagram) (s t : Session) (o : Outcome) (whole : 
       reception = reception_after o s.packets packets s.reception now.0 d;
       choice = record s.choice { latest = latest_after s.choice.latest now.0 (origin_of d) };
       seen = seen;
-      notes = notes_after s.notes s.stream d o packets.numbering.greatest;
+      notes = notes_after s.notes s.stream d o s.packets packets;
     }
     → Heard now d s answer t
 heard now d s t o whole packets seen (Ok told) takes answers left = record { outcome = o; whole = whole; packets = packets; seen = seen; takes = takes; answers = answers; left = left }

@@ -1,5 +1,5 @@
 -- What the packets of a stream of video say of the frames that they begin, until these frames are released.
-use Rattle.std.specs.Prelude.{◌≡◌, ◌≤◌, ◌==◌, ◌^◌, ℕ, if◌then◌else◌, Bool, true, false, List, [], Option, Some, None, Result, Ok, Err}
+use Rattle.std.specs.Prelude.{◌≡◌, ◌≤◌, ◌==◌, ◌||◌, ◌^◌, ℕ, if◌then◌else◌, not, Bool, true, false, List, [], Option, Some, None, Result, Ok, Err}
 use Rattle.std.specs.Option.{is_some, option_map}
 use Rattle.codec_payload_base.specs.declared.error.PacketError.{PacketError}
 use Rattle.codec_payload_base.specs.Extended.{extended}
@@ -7,6 +7,8 @@ use Rattle.codec_payload_base.specs.declared.wire.Codec.{Codec}
 use Rattle.codec_payload_base.specs.declared.wire.Codec.TheVariants as codecs
 use Rattle.codec_payload_metadata.specs.Release.{IsFirst, IsLast, Release}
 use Rattle.codec_payload_metadata.specs.declared.meta.RtpMeta.{RtpMeta}
+use Rattle.codec_payload_jitter.specs.Receiving.{Receiving}
+use Rattle.codec_payload_jitter.specs.Suspects.{is_kept_at}
 use Rattle.codec_payload_jitter.specs.declared.outcome.Outcome.{Outcome}
 use Rattle.codec_payload_jitter.specs.declared.outcome.Outcome.TheVariants as outcomes
 use Rattle.codec_payload_keyframes.specs.declared.unit_gate.FromKeyframe.{FromKeyframe}
@@ -30,9 +32,6 @@ pub record Noting : Type 0 where
   pub descriptor : Option ℕ
   pub notes : Notes
 
-abbrev pub without_room : Notes → Notes
-without_room n = record n { room = 0 }
-
 -- none are held, and nothing is known of the stream
 abbrev pub no_notes : ℕ → Notes
 no_notes most = record { held = []; room = 0; most = most; following = record { stream = record { structure = None; active = 0 }; latest = 2 ^ 63 }; suspect = None }
@@ -42,8 +41,9 @@ abbrev pub notes_in : ℕ → Option Notes → Notes
 notes_in most None = no_notes most
 notes_in most (Some n) = n
 
+-- the note of the suspect packet is beside them
 abbrev pub noting_of : StreamNotes → Noting
-noting_of s = record { is_vp9 = s.is_vp9; descriptor = s.descriptor; notes = without_room (notes_in s.most (option_map (λ b. b.value) s.notes)) }
+noting_of s = record { is_vp9 = s.is_vp9; descriptor = s.descriptor; notes = record (notes_in s.most (option_map (λ b. b.value) s.notes)) { room = 0; suspect = s.suspect } }
 
 -- ---- which streams need notes
 
@@ -68,33 +68,34 @@ new_noting mode codec descriptor most = if is_inspected mode then noting_for cod
 
 -- ---- what a datagram brings
 
--- a packet with media: its original number, its header extension, and its payload
+-- a packet with media: its original number, its RTP time, its header extension, and its payload
 pub record MediaPacket : Type 0 where
   pub number : ℕ
+  pub time : ℕ
   pub extension : Option Extension
   pub bytes : List ℕ
 
 abbrev pub media_of : Media → MediaPacket
-media_of m = record { number = m.number; extension = extension_of m.extension; bytes = m.payload.now }
+media_of m = record { number = m.number; time = m.time; extension = extension_of m.extension; bytes = m.payload.now }
 
 -- the primary block of a RED packet, if it is media of the stream; redundant blocks have no header extension
 abbrev pub primary_media : Kinds → Carrier → Option MediaPacket
-primary_media s c = if c.primary.pt == s.payload_type then Some (record { number = c.header.sequence_number; extension = c.header.extension; bytes = c.primary.payload }) else None
+primary_media s c = if c.primary.pt == s.payload_type then Some (record { number = c.header.sequence_number; time = c.header.timestamp; extension = c.header.extension; bytes = c.primary.payload }) else None
 
 abbrev pub media_in : Kinds → Datagram → Option MediaPacket
 media_in s RtcpPacket = None
 media_in s (Malformed e) = None
 media_in s OfOthers = None
 media_in s (WithoutMedia h) = None
-media_in s (WithMedia p) = Some (record { number = p.header.sequence_number; extension = p.header.extension; bytes = p.payload })
+media_in s (WithMedia p) = Some (record { number = p.header.sequence_number; time = p.header.timestamp; extension = p.header.extension; bytes = p.payload })
 media_in s (InRed c) = primary_media s c
-media_in s (Again o) = Some (record { number = o.number; extension = o.header.extension; bytes = o.bytes })
+media_in s (Again o) = Some (record { number = o.number; time = o.header.timestamp; extension = o.header.extension; bytes = o.bytes })
 media_in s (AgainInRed c) = primary_media s c
 media_in s AgainEmpty = None
 
 -- its note, if it begins a frame
 abbrev pub pending_by : Noting → MediaPacket → PendingNote
-pending_by n m = record { number = m.number; note = note_of n.is_vp9 m.bytes (bytes_for n.descriptor (elements_of m.extension)) }
+pending_by n m = record { number = m.number; time = m.time; note = note_of n.is_vp9 m.bytes (bytes_for n.descriptor (elements_of m.extension)) }
 
 abbrev pub pending_in : Option Noting → Kinds → Datagram → Option PendingNote
 pending_in None s d = None
@@ -103,74 +104,101 @@ pending_in (Some n) s d = option_map (pending_by n) (media_in s d)
 -- ---- notes of packets that are stored
 
 -- under the number nearest to the highest one
-abbrev pub with_near : Option ℕ → ℕ → Note → Notes → Notes
-with_near highest low note n = record n { held = inserted n.most (record { number = extended 65536 highest low; note = note }) n.held }
+abbrev pub with_near : Option ℕ → ℕ → Note → Noting → Noting
+with_near highest low note n = record n { notes = record n.notes { held = inserted n.notes.most (record { number = extended 65536 highest low; note = note }) n.notes.held } }
 
-abbrev pub with_note : Option ℕ → ℕ → Option Note → Notes → Notes
+abbrev pub with_note : Option ℕ → ℕ → Option Note → Noting → Noting
 with_note highest low None n = n
 with_note highest low (Some note) n = with_near highest low note n
 
-abbrev pub without_suspect : Notes → Notes
-without_suspect n = record n { suspect = None }
+-- the note of the packet that the jitter buffer keeps as suspect, with its number
+abbrev pub suspect_note : Option Noting → Option (ℕ × Note)
+suspect_note None = None
+suspect_note (Some n) = n.notes.suspect
 
--- the note of a suspect packet replaces that of the one before
-abbrev pub with_suspect : ℕ → Option Note → Notes → Notes
-with_suspect low note n = record n { suspect = option_map (λ x. (low, x)) note }
+abbrev pub with_suspect_note : Option (ℕ × Note) → Noting → Noting
+with_suspect_note suspect n = record n { notes = record n.notes { suspect = suspect } }
 
--- the suspect packet was stored
-abbrev pub with_kept : Option ℕ → Option (ℕ × Note) → Notes → Notes
-with_kept highest None n = n
-with_kept highest (Some kept) n = with_near highest kept.0 kept.1 n
-
-abbrev pub with_kept_if : Bool → Option ℕ → Notes → Notes
-with_kept_if true highest n = with_kept highest n.suspect (without_suspect n)
-with_kept_if false highest n = without_suspect n
-
--- by the outcome of the packet: a packet that was not stored has no note, and that of a suspect packet waits for a restart
-abbrev pub noted : PendingNote → Outcome → Option ℕ → Notes → Notes
-noted p outcomes.Held highest n = with_note highest p.number p.note n
-noted p outcomes.HeldAndEvicted highest n = with_note highest p.number p.note n
-noted p outcomes.Suspect highest n = with_suspect p.number p.note n
-noted p (outcomes.Restarted with_kept) highest n = with_note highest p.number p.note (with_kept_if with_kept highest n)
-noted p outcomes.Duplicate highest n = n
-noted p outcomes.Late highest n = n
-noted p outcomes.NoMedia highest n = n
-noted p outcomes.OtherStream highest n = n
-noted p outcomes.Undecided highest n = n
-noted p outcomes.Rtcp highest n = n
-
-abbrev pub settled_by : PendingNote → Outcome → Option ℕ → Noting → Noting
-settled_by p outcome highest n = record n { notes = noted p outcome highest n.notes }
-
-abbrev pub noted_with : Option Noting → Option PendingNote → Outcome → Option ℕ → Option Noting
-noted_with None p outcome highest = None
-noted_with (Some n) None outcome highest = Some n
-noted_with (Some n) (Some p) outcome highest = Some (settled_by p outcome highest n)
-
--- the notes after a datagram with this outcome; `highest` is the highest extended number after it
-abbrev pub notes_after : Option Noting → Kinds → Datagram → Outcome → Option ℕ → Option Noting
-notes_after n s d outcome highest = noted_with n (pending_in n s d) outcome highest
-
--- the note of the suspect packet is forgotten
+-- it is forgotten
 abbrev pub forgetting : Noting → Noting
-forgetting n = record n { notes = without_suspect n.notes }
+forgetting n = with_suspect_note None n
 
 abbrev pub forgotten : Option Noting → Option Noting
 forgotten n = option_map forgetting n
 
--- there is memory for two more notes, if there is one
-abbrev pub HasRoomFor : Option Notes → Bool → Type 0
-HasRoomFor None false = Unit {0}
-HasRoomFor None true = ⊥
-HasRoomFor (Some n) there = 2 ≤ n.room
+-- the suspect packet was stored
+abbrev pub with_kept : Option ℕ → Option (ℕ × Note) → Noting → Noting
+with_kept highest None n = n
+with_kept highest (Some kept) n = with_near highest kept.0 kept.1 n
 
-abbrev pub HasRoom : Option Note → StreamNotes → Type 0
-HasRoom note s = HasRoomFor (option_map (λ b. b.value) s.notes) (is_some note)
+-- a restart: the note of the suspect packet is inserted if that packet was stored, and else forgotten
+abbrev pub kept_noted : (is_stored : Bool) → Option ℕ → Noting → Noting
+kept_noted true highest n = with_kept highest n.notes.suspect (forgetting n)
+kept_noted false highest n = forgetting n
 
-abbrev pub HasRoomIf : Option StreamNotes → Option PendingNote → Type 0
-HasRoomIf None p = Unit {0}
-HasRoomIf (Some s) None = Unit {0}
-HasRoomIf (Some s) (Some p) = HasRoom p.note s
+abbrev pub kept_noted_if : Option Bool → Option ℕ → Noting → Noting
+kept_noted_if None highest n = n
+kept_noted_if (Some is_stored) highest n = kept_noted is_stored highest n
+
+-- by the outcome of the packet: a packet that was not stored has no note; if the jitter buffer keeps it as suspect, its note replaces
+-- the note of the suspect packet before, and waits for a restart
+abbrev pub noted : PendingNote → Outcome → (is_kept : Bool) → Option ℕ → Noting → Noting
+noted p outcomes.Held is_kept highest n = with_note highest p.number p.note n
+noted p outcomes.HeldAndEvicted is_kept highest n = with_note highest p.number p.note n
+noted p outcomes.Suspect true highest n = with_suspect_note (option_map (λ x. (p.number, x)) p.note) n
+noted p outcomes.Suspect false highest n = n
+noted p (outcomes.Restarted with_kept) is_kept highest n = with_note highest p.number p.note n
+noted p outcomes.Duplicate is_kept highest n = n
+noted p outcomes.Late is_kept highest n = n
+noted p outcomes.NoMedia is_kept highest n = n
+noted p outcomes.OtherStream is_kept highest n = n
+noted p outcomes.Undecided is_kept highest n = n
+noted p outcomes.Rtcp is_kept highest n = n
+
+-- the jitter buffer after the packet keeps it if its suspect packet has this number and this RTP time
+abbrev pub noted_if : Option PendingNote → Outcome → Receiving → Noting → Noting
+noted_if None outcome after n = n
+noted_if (Some p) outcome after n = noted p outcome (is_kept_at p.number p.time after.kept) after.numbering.greatest n
+
+abbrev pub settled_by : Option PendingNote → Outcome → Option Bool → Receiving → Noting → Noting
+settled_by p outcome restart after n = noted_if p outcome after (kept_noted_if restart after.numbering.greatest n)
+
+abbrev pub noted_with : Option Noting → Option PendingNote → Outcome → Option Bool → Receiving → Option Noting
+noted_with n p outcome restart after = option_map (settled_by p outcome restart after) n
+
+-- whether a restart was confirmed between these two states of the jitter buffer; and if so, whether a suspect packet was kept, which is
+-- then stored
+abbrev pub restart_if : (has_restarted : Bool) → (has_kept : Bool) → Option Bool
+restart_if true has_kept = Some has_kept
+restart_if false has_kept = None
+
+abbrev pub restart_between : (before after : Receiving) → Option Bool
+restart_between before after = restart_if (not (after.counters.restarts == before.counters.restarts)) (is_some before.kept)
+
+-- the notes after a datagram with this outcome, before and after which the jitter buffer is in these states
+abbrev pub notes_after : Option Noting → Kinds → Datagram → Outcome → (before after : Receiving) → Option Noting
+notes_after n s d outcome before after = noted_with n (pending_in n s d) outcome (restart_between before after) after
+
+-- for how many more notes there is memory
+abbrev pub room_in : Option Notes → ℕ
+room_in None = 0
+room_in (Some n) = n.room
+
+abbrev pub room_of : StreamNotes → ℕ
+room_of s = room_in (option_map (λ b. b.value) s.notes)
+
+-- there is memory for the note of a packet, if it has one, and for the note of the suspect packet, if there is one
+abbrev pub HasRoomFor : Bool → StreamNotes → Type 0
+HasRoomFor there s = (there || is_some s.suspect) ≡ true → 2 ≤ room_of s
+
+abbrev pub HasRoomIf : Bool → Option PendingNote → StreamNotes → Type 0
+HasRoomIf restarts (Some p) s = HasRoomFor (is_some p.note) s
+HasRoomIf true None s = HasRoomFor false s
+HasRoomIf false None s = Unit {0}
+
+abbrev pub HasRoomIn : Bool → Option PendingNote → Option StreamNotes → Type 0
+HasRoomIn restarts p None = Unit {0}
+HasRoomIn restarts p (Some s) = HasRoomIf restarts p s
 
 -- ---- notes of units that are released
 

@@ -15,6 +15,7 @@ use Rattle.codec_payload_metadata.specs.Release.{Release}
 use Rattle.codec_payload_buffer.specs.Steps.{empty_buffer}
 use Rattle.codec_payload_numbers.specs.Numbers.{Numbering, numbering_within}
 use Rattle.codec_payload_jitter.specs.Receiving.{Receiving, Arrival, Notes, Receives, ReceivesAgain, Recovers, begun_anew, counted, next, no_packets, would_store}
+use Rattle.codec_payload_jitter.specs.Suspects.{taken_back}
 use Rattle.codec_payload_jitter.specs.Waiting.{most_held_back, room_for}
 use Rattle.codec_payload_numbers.specs.declared.numbers.WindowError.{WindowError}
 use Rattle.codec_payload_numbers.specs.declared.numbers.WindowError.TheVariants as windows
@@ -27,7 +28,7 @@ use Rattle.codec_payload_datagrams.specs.Kinds.{Kinds, Carrier, Datagram, RtcpPa
 use Rattle.codec_payload_numbers.specs.SeenTimes.{Seen, has_block, is_seen, none_seen, seen_with, seen_past}
 use Rattle.codec_payload_numbers.specs.Reports.{Reception, no_reception, observed, reception_anew, reception_since}
 use Rattle.codec_payload_receiver.specs.Bounds.{new_bound}
-use Rattle.codec_payload_receiver.specs.Noting.{Noting, forgotten, new_noting, notes_after}
+use Rattle.codec_payload_receiver.specs.Noting.{Noting, forgotten, new_noting, notes_after, with_suspect_note}
 use Rattle.codec_payload_receiver.specs.declared.blocks.BlockCopy.{BlockCopy}
 use Rattle.codec_payload_receiver.specs.declared.bound.UnitBound.{UnitBound}
 use Rattle.codec_payload_datagrams.specs.declared.choice.Candidate.{Candidate}
@@ -39,6 +40,7 @@ use Rattle.codec_payload_datagrams.specs.declared.kinds.Malformation.TheVariants
 use Rattle.codec_payload_datagrams.specs.declared.kinds.RedStream.{RedStream}
 use Rattle.codec_payload_receiver.specs.declared.receiver.Arrived.{Arrived}
 use Rattle.codec_payload_receiver.specs.declared.receiver.Counters.{Counters}
+use Rattle.codec_payload_receiver.specs.declared.receiver.LeftStream.{LeftStream}
 use Rattle.codec_payload_receiver.specs.declared.receiver.ReceiveError.{ReceiveError}
 use Rattle.codec_payload_receiver.specs.declared.receiver.ReceiveError.TheVariants as errors
 use Rattle.codec_payload_receiver.specs.declared.receiver.RedSettings.{RedSettings}
@@ -317,7 +319,7 @@ pub record Hears (now : Ticks) (d : Datagram) (s : Session) (answer : Result Out
     reception = reception_after outcome s.packets packets s.reception now.0 d;
     choice = record s.choice { latest = latest_after s.choice.latest now.0 (origin_of d) };
     seen = seen;
-    notes = notes_after s.notes s.stream d outcome packets.numbering.greatest;
+    notes = notes_after s.notes s.stream d outcome s.packets packets;
   }
 
 -- if memory ran out, nothing has changed, and the datagram is of a kind that takes memory
@@ -386,6 +388,16 @@ SettlesOn (Some c) false s t = t ≡ s
 abbrev pub gone_over_to : Option ℕ → Session → Session
 gone_over_to ssrc s = record s { ssrc = ssrc; packets = begun_anew s.packets; reception = reception_anew s.reception; seen = none_seen; notes = forgotten s.notes }
 
+-- the stream that was left is back
+abbrev pub come_back : LeftStream → Session → Session
+come_back l s = record s {
+  ssrc = l.ssrc;
+  packets = taken_back l.before s.packets;
+  reception = l.statistics;
+  seen = l.seen;
+  notes = option_map (with_suspect_note l.suspect) s.notes;
+}
+
 -- a stream that was silent is left, as if the caller had announced a restart
 abbrev pub opened_if : Bool → Session → Session
 opened_if true s = s
@@ -394,16 +406,20 @@ opened_if false s = gone_over_to None s
 abbrev pub opened : Session → Session
 opened s = opened_if (is_none_of s.ssrc) s
 
--- then the datagram itself is received
-abbrev pub HearsIf : Bool → Ticks → List ℕ → Session → Result Outcome ReceiveError → Session → Type 0
-HearsIf true now bytes s answer t = Heard now (datagram_at s.stream s.ssrc bytes) s answer t
-HearsIf false now bytes s answer t = (answer ≡ Err errors.OutOfMemory) × (t ≡ s)
+-- the waiting packet chooses the stream, in place of a stream that was silent. If memory runs out for that packet, nothing has changed
+abbrev pub SettlesAnew : Option Candidate → Bool → Session → Session → Type 0
+SettlesAnew c true s t = SettlesOn c true (opened s) t
+SettlesAnew c false s t = t ≡ s
+
+-- then the datagram itself is received; if memory ran out for the waiting packet, nothing has changed
+abbrev pub ChoosesIf : Bool → ℕ → Ticks → List ℕ → Session → Result Outcome ReceiveError → Session → Type 0
+ChoosesIf true place now bytes s answer t =
+    (mid : Session) × SettlesAnew (slice_get s.choice.candidates place) true s mid × Heard now (datagram_at mid.stream mid.ssrc bytes) mid answer t
+ChoosesIf false place now bytes s answer t = (answer ≡ Err errors.OutOfMemory) × (t ≡ s)
 
 pub record Chooses (place : ℕ) (now : Ticks) (bytes : List ℕ) (s : Session) (answer : Result Outcome ReceiveError) (t : Session) : Type 0 where
   pub whole : Bool
-  pub mid : Session
-  pub settles : SettlesOn (slice_get s.choice.candidates place) whole (opened s) mid
-  pub hears : HearsIf whole now bytes mid answer t
+  pub chooses : ChoosesIf whole place now bytes s answer t
 
 abbrev pub ReceivesBy : Verdict → Ticks → List ℕ → Session → Result Outcome ReceiveError → Session → Type 0
 ReceivesBy verdicts.Hear now bytes s answer t = Heard now (datagram_at s.stream s.ssrc bytes) s answer t

@@ -9,9 +9,10 @@ ghost use Rattle.codec_payload_jitter.specs.Receiving.{deadline_of, is_idle, is_
 ghost use Rattle.codec_payload_receiver.specs.Bounds.{counters_with};
 ghost use Rattle.codec_payload_datagrams.specs.Kinds.{datagram_at, datagram_of, retransmitted_under, takes_memory};
 ghost use Rattle.codec_payload_numbers.specs.Reports.{report_of, reported};
-ghost use Rattle.codec_payload_receiver.specs.Sessions.{Chooses, Finishes, Heard, IsAccountedFor, Keeps, ReceivesBy, ReceivesBytes, SettlesOn, arrived_with, first_waiting, gone_over_to, is_open, nothing_arrived, observed_in, restarted, session_by, session_with, ssrc_after, turned_away, verdict_in};
+ghost use Rattle.codec_payload_receiver.specs.Sessions.{Chooses, Finishes, Heard, IsAccountedFor, Keeps, ReceivesBy, ReceivesBytes, SettlesAnew, SettlesOn, arrived_with, come_back, first_waiting, gone_over_to, is_open, nothing_arrived, observed_in, restarted, session_by, session_with, ssrc_after, turned_away, verdict_in};
 
 mod hearing;
+mod noting;
 mod pops;
 mod unit_pops;
 
@@ -20,7 +21,7 @@ use crate::bound::UnitBound;
 use crate::checks::{packets_at_once, red_of, retransmission_fits};
 use crate::datagram::StreamKinds;
 use crate::gated::gate_for;
-use crate::notes::{StreamNotes, forget_suspect, notes_for};
+use crate::notes::{StreamNotes, notes_for, put_suspect, take_suspect};
 use crate::reports::{ReceptionReport, ReceptionStatistics};
 use codec_payload_base::error::PacketError;
 use codec_payload_base::wire::{Frequency, Ticks};
@@ -30,11 +31,14 @@ use codec_payload_datagrams::choice::{Choice, Origin, Verdict};
 pub use codec_payload_datagrams::kinds::Retransmission;
 use codec_payload_datagrams::kinds::{Datagram, RedStream};
 use codec_payload_datagrams::parsed::ParsedDatagram;
-use codec_payload_jitter::jitter::{JitterBuffer, Outcome, PacketCounters, WaitLimits};
+use codec_payload_jitter::jitter::{
+    BeforeRestart, JitterBuffer, Outcome, PacketCounters, WaitLimits,
+};
 use codec_payload_jitter::missing::MissingNumbers;
 use codec_payload_keyframes::unit_gate::{FromKeyframe, UnitGate};
 use codec_payload_numbers::numbers::{SequenceNumbers, WindowError};
 use codec_payload_numbers::seen_times::LazySeenTimes;
+use codec_payload_references::note::FrameNote;
 use codec_payload_rtp::rtp::RtpError;
 use codec_payload_rtp::times::RtpTimes;
 use codec_payload_rtp::values::ExtensionIds;
@@ -141,7 +145,7 @@ pub enum ReceiveError {
     /// malformed.
     #[error("the retransmission has no original sequence number")]
     Retransmission,
-    /// Out of memory. This datagram has changed nothing; you can pass it again.
+    /// Out of memory. This datagram has changed nothing; you can pass it again. See [`Receiver::receive`].
     #[error("out of memory")]
     OutOfMemory,
     /// The RED packet itself was received and is counted, and memory ran out for a redundant block. The packet of that block
@@ -182,6 +186,17 @@ pub(crate) struct Arrived {
     rtcp: u64,
     malformed: u64,
     other_streams: u64,
+}
+
+/// What a receiver knew of the sender that it has left.
+#[derive(Debug, Drop)]
+struct LeftStream {
+    ssrc: Option<u32>,
+    statistics: ReceptionStatistics,
+    seen: LazySeenTimes,
+    /// The note of the suspect packet, with its number.
+    suspect: Option<(u16, FrameNote)>,
+    before: BeforeRestart,
 }
 
 /// Receives the datagrams of one stream in any order, and returns units in order.
@@ -339,8 +354,9 @@ impl<B: Depacketizer> Receiver<B> {
     ///
     /// # Errors
     ///
-    /// - `OutOfMemory`: this datagram has changed nothing; you can pass it again. A packet that waited may have been received. Only
-    ///   a datagram that takes memory has this error: not RTCP, and no malformed datagram.
+    /// - `OutOfMemory`: nothing has changed; you can pass the datagram again. One exception: it chooses the stream, and memory ran out
+    ///   for it alone; the packet that waited was received then, and the stream is chosen. Only a datagram that takes memory has this
+    ///   error: not RTCP, and no malformed datagram.
     /// - `BlocksOutOfMemory`: the RED packet itself was received; see [`ReceiveError::BlocksOutOfMemory`].
     /// - `Rtp`, `Red`, `Retransmission`: the datagram is counted as malformed, and the stream continues.
     pub fn receive(&mut self, now: Ticks, bytes: &[u8]) -> Result<Outcome, ReceiveError>
@@ -470,13 +486,27 @@ impl<B: Depacketizer> Receiver<B> {
         ensures chosen { Chooses place now datagram.now self.old result self.new }
         ensures own { is_built_in_depacketizer self.old.packets.buffer.depacketizer ≡ false → OwnStores B.is_head B.is_tail self.old.packets.buffer self.new.packets.buffer }
     {
-        if self.ssrc.is_some() {
-            self.go_over_to(None);
-        }
-        if !self.settle_on(place) {
+        if !self.settle_anew(place) {
             return Err(ReceiveError::OutOfMemory);
         }
         self.hear_rarely(now, datagram)
+    }
+
+    /// Leaves the stream, if there is one, and chooses the stream of the packet that waits at this place. Returns false if memory runs
+    /// out; nothing has changed then.
+    fn settle_anew(&mut self, place: usize) -> bool
+        ensures settled { SettlesAnew (slice_get self.old.choice.candidates place) result self.old self.new }
+        ensures own { is_built_in_depacketizer self.old.packets.buffer.depacketizer ≡ false → OwnStores B.is_head B.is_tail self.old.packets.buffer self.new.packets.buffer }
+    {
+        if self.ssrc.is_none() {
+            return self.settle_on(place);
+        }
+        let left = self.leave();
+        if self.settle_on(place) {
+            return true;
+        }
+        self.come_back(left);
+        false
     }
 
     /// Chooses the stream of the first waiting packet, if no SSRC was chosen so far. Returns false if memory runs out.
@@ -659,11 +689,36 @@ impl<B: Depacketizer> Receiver<B> {
     fn go_over_to(&mut self, ssrc: Option<u32>)
         ensures { self.new ≡ gone_over_to ssrc self.old }
     {
+        let _ = self.leave();
         self.ssrc = ssrc;
+    }
+
+    /// Begins the numbers of another sender whose SSRC is not known, and returns what [`Receiver::come_back`] needs to undo it.
+    fn leave(&mut self) -> LeftStream
+        ensures left { self.new ≡ gone_over_to Option.None self.old }
+        ensures back { come_back result self.new ≡ self.old }
+    {
+        let left = LeftStream {
+            ssrc: self.ssrc,
+            statistics: self.statistics,
+            seen: mem::replace(&mut self.seen, LazySeenTimes::none()),
+            suspect: take_suspect(&mut self.notes),
+            before: self.packets.restart_for_now(),
+        };
+        self.ssrc = None;
         self.statistics = self.statistics.anew();
-        self.seen = LazySeenTimes::none();
-        forget_suspect(&mut self.notes);
-        self.packets.restart();
+        left
+    }
+
+    /// Goes back to the stream that was left.
+    fn come_back(&mut self, left: LeftStream)
+        ensures { self.new ≡ come_back left self.old }
+    {
+        self.ssrc = left.ssrc;
+        self.statistics = left.statistics;
+        self.seen = left.seen;
+        put_suspect(&mut self.notes, left.suspect);
+        self.packets.take_back(left.before);
     }
 
     /// Writes the same numbers as [`Receiver::missing`] to `numbers`, in place of what it had, from a list that is kept from call to

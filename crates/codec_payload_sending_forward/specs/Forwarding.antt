@@ -1,8 +1,7 @@
 -- What a forwarder does with a packet.
-use Rattle.std.specs.Prelude.{◌≡◌, ◌<◌, ◌⊎◌, ℕ, ◌+◌, ◌-◌, ◌%◌, ◌≤◌, ◌==◌, ◌/◌, ◌&&◌, drop, max, min, nat_lt, not, if◌then◌else◌, Bool, true, false, List, [], ◌∷◌, ◌++◌, length, Option, Some, None, is_some, option_map, Result, Ok, Err}
+use Rattle.std.specs.Prelude.{◌≡◌, ◌<◌, ◌⊎◌, ℕ, ◌+◌, ◌-◌, ◌%◌, ◌≤◌, ◌==◌, max, min, nat_lt, not, if◌then◌else◌, Bool, true, false, List, [], ◌∷◌, ◌++◌, length, Option, Some, None, is_some, option_map, Result, Ok, Err}
 use Rattle.std.specs.Int.{w16, to_be_bytes}
 use Rattle.codec_payload_base.specs.Extended.{nearest}
-use Rattle.codec_payload_base.specs.Flags.{has_bit}
 use Rattle.codec_payload_base.specs.PictureIds.{id_value}
 use Rattle.codec_payload_base.specs.declared.wire.Codec.{Codec}
 use Rattle.codec_payload_base.specs.declared.wire.Codec.TheVariants as codecs
@@ -11,8 +10,7 @@ use Rattle.codec_payload_sending_history.specs.Packets.{Past, stream_fits}
 use Rattle.codec_payload_sending_history.specs.declared.retransmission.RetransmissionStream.{RetransmissionStream}
 use Rattle.codec_payload_rtp.specs.RtpPackets.{Packet, packet_bytes}
 use Rattle.codec_payload_rtp.specs.RtpReading.{rtp_at}
-use Rattle.codec_payload_vp8.specs.Vp8Keyframe.{is_keyframe}
-use Rattle.codec_payload_vp9.specs.Vp9Keyframe.{is_key_payload}
+use Rattle.codec_payload_layers.specs.Layers.{begins_keyframe}
 use Rattle.codec_payload_sending_forward.specs.declared.forwarder.ForwardError.{ForwardError}
 use Rattle.codec_payload_sending_forward.specs.declared.forwarder.ForwardError.TheVariants as errors
 use Rattle.codec_payload_sending_forward.specs.declared.forwarder.ForwardSettings.{ForwardSettings}
@@ -59,36 +57,6 @@ forward_by s =
 abbrev pub is_source : Option ℕ → ℕ → Bool
 is_source None ssrc = false
 is_source (Some source) ssrc = source == ssrc
-
--- ---- which packets a viewer can begin with
-
--- VP9 (RFC 9628, section 4.2): a PictureID, if I is set, has a second byte if its highest bit is set
-abbrev pub behind_id : Bool → List ℕ → List ℕ
-behind_id false bytes = bytes
-behind_id true [] = []
-behind_id true (id ∷ bytes) = if has_bit id 7 then drop 1 bytes else bytes
-
--- behind it, if L is set, is an octet of layers, with SID in bits 1 to 3
-abbrev pub is_lowest_layer : Bool → List ℕ → Bool
-is_lowest_layer false bytes = true
-is_lowest_layer true [] = false
-is_lowest_layer true (layers ∷ bytes) = layers / 2 % 8 == 0
-
--- P is clear, B is set, and L is clear or SID is 0: an upper spatial layer needs the one below
-abbrev pub begins_vp9 : List ℕ → Bool
-begins_vp9 [] = false
-begins_vp9 (flags ∷ bytes) = is_key_payload (flags ∷ bytes) && (has_bit flags 3 && is_lowest_layer (has_bit flags 5) (behind_id (has_bit flags 7) bytes))
-
--- AV1: N is set, and Z is clear (RTP payload format for AV1, section 4.4)
-abbrev pub begins_av1 : List ℕ → Bool
-begins_av1 [] = false
-begins_av1 (header ∷ bytes) = has_bit header 3 && not (has_bit header 7)
-
-abbrev pub begins : Codec → List ℕ → Bool
-begins codecs.Vp8 payload = is_keyframe payload
-begins codecs.Vp9 payload = begins_vp9 payload
-begins codecs.Av1 payload = begins_av1 payload
-begins codec payload = true
 
 -- ---- what is written
 
@@ -209,14 +177,14 @@ IsWritten p bytes = (bytes ≡ packet_bytes p) × (rtp_at bytes ≡ Ok p)
 -- What is done with a packet: the answer, the bytes written, and the forwarder after it
 abbrev pub Forwards : ℕ → Packet → Forward → Forwarded → List ℕ → Forward → Type 0
 Forwards now p f answers.Began bytes t =
-    (is_source f.source p.header.ssrc ≡ false) × (is_source f.wanted p.header.ssrc ≡ true) × (begins f.settings.codec p.payload ≡ true)
+    (is_source f.source p.header.ssrc ≡ false) × (is_source f.wanted p.header.ssrc ≡ true) × (begins_keyframe f.settings.codec p.payload ≡ true)
     × IsWritten (first_packet now f p) bytes × (t ≡ after_begin now p f)
 Forwards now p f answers.Written bytes t =
     (is_source f.source p.header.ssrc ≡ true)
     × ((sent : ℕ) × (placed f.numbers (number_in f p) true ≡ places.Sent sent) × IsWritten (next_packet f sent p) bytes)
     × (t ≡ after_next now p f)
 Forwards now p f answers.NoKeyframe bytes t =
-    (is_source f.source p.header.ssrc ≡ false) × (is_source f.wanted p.header.ssrc ≡ true) × (begins f.settings.codec p.payload ≡ false) × IsLeft f bytes t
+    (is_source f.source p.header.ssrc ≡ false) × (is_source f.wanted p.header.ssrc ≡ true) × (begins_keyframe f.settings.codec p.payload ≡ false) × IsLeft f bytes t
 Forwards now p f answers.OtherSource bytes t = (is_source f.source p.header.ssrc ≡ false) × (is_source f.wanted p.header.ssrc ≡ false) × IsLeft f bytes t
 Forwards now p f answers.TooOld bytes t = (is_source f.source p.header.ssrc ≡ true) × (placed f.numbers (number_in f p) true ≡ places.TooOld) × IsLeft f bytes t
 Forwards now p f answers.LeftOut bytes t = (is_source f.source p.header.ssrc ≡ true) × (placed f.numbers (number_in f p) true ≡ places.LeftOut) × IsLeft f bytes t

@@ -3,6 +3,7 @@
 ghost use Rattle.std.specs.Prelude.{◌≡◌, ◌<◌, ◌≤◌, ◌+◌, ◌++◌, ℕ, [], length, Some, None, Ok, true, false, IfOk, IfSome, IfNone, IsTrue, OnOk, OnErr};
 ghost use Rattle.std.specs.Int.{w16, to_be_bytes};
 ghost use Rattle.codec_payload_base.specs.Extended.{nearest};
+ghost use Rattle.codec_payload_layers.specs.Layers.{begins_keyframe};
 ghost use Rattle.codec_payload_sending_history.specs.Histories.{first_of};
 ghost use Rattle.codec_payload_sending_history.specs.Packets.{stream_fits};
 ghost use Rattle.codec_payload_rtp.specs.RtpPackets.{header_bytes, header_fits, packet_bytes};
@@ -10,14 +11,14 @@ ghost use Rattle.codec_payload_rtp.specs.RtpReading.{rtp_at};
 ghost use Rattle.codec_payload_rtp.specs.RtpValues.{header_of, packet_of};
 ghost use Rattle.codec_payload_sending_forward.specs.declared.renumbering.Placed.TheVariants as places;
 ghost use Rattle.codec_payload_sending_forward.specs.Numbers.{after_packet, placed};
-ghost use Rattle.codec_payload_sending_forward.specs.Forwarding.{IsNotRequested, IsNumberOf, IsRequested, IsResent, IsWritten, Forwards, Leaves, Repeats, after_written, begins, codec_fits, forward_by, is_source, next_packet, number_in, offsets_for, packet_under, sent_packet, size_again, forwarded_size, ticks_between, time_for, wrapped};
+ghost use Rattle.codec_payload_sending_forward.specs.Forwarding.{IsNotRequested, IsNumberOf, IsRequested, IsResent, IsWritten, Forwards, Leaves, Repeats, after_written, codec_fits, forward_by, is_source, next_packet, number_in, offsets_for, packet_under, sent_packet, size_again, forwarded_size, ticks_between, time_for, wrapped};
 
-use crate::beginning::begins;
 use crate::ids::{ForwardedIds, IdOffsets};
 use crate::payloads::{closing_id, ids_in, rewrite};
 use crate::renumbering::{Placed, Renumbering};
 use crate::times::Retiming;
 use codec_payload_base::wire::Codec;
+use codec_payload_layers::layers::begins_keyframe;
 use codec_payload_rtp::rtp::{PacketHeader, RtpPacket};
 use codec_payload_sending_history::retransmission::{History, RetransmissionStream};
 use std::alloc::{AllocError, Global};
@@ -340,7 +341,7 @@ impl Forwarder {
         if !is_source(self.wanted, ssrc) {
             return Ok(Forwarded::OtherSource);
         }
-        if !begins(self.settings.codec, packet.payload) {
+        if !begins_keyframe(self.settings.codec, packet.payload) {
             return Ok(Forwarded::NoKeyframe);
         }
         self.begin(now, packet, out)
@@ -466,7 +467,7 @@ impl Forwarder {
         requires empty { out.old.items ≡ [] }
         requires other { is_source self.old.source packet.now.header.ssrc ≡ false }
         requires wanted { IsTrue (is_source self.old.wanted packet.now.header.ssrc) }
-        requires begins { IsTrue (begins self.old.settings.codec packet.now.payload.now) }
+        requires begins { IsTrue (begins_keyframe self.old.settings.codec packet.now.payload.now) }
         ensures ok { IfOk result (λ answer. Forwards now (packet_of packet.now) self.old answer out.new.items self.new) }
         ensures err { OnErr result ((self.new ≡ self.old) × (out.new.items ≡ [])) }
     {

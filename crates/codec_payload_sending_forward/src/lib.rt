@@ -2,7 +2,6 @@
 //! (docs/use/FORWARDING.md).
 #![tactic(auto)]
 
-mod beginning;
 pub mod counts;
 pub mod forwarder;
 pub mod ids;

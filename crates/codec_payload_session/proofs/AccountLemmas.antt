@@ -30,6 +30,8 @@ use Rattle.codec_payload_session_requests.specs.Late.{limit_by}
 use Rattle.codec_payload_session_formats.specs.Names.{names_after}
 use Rattle.codec_payload_rtp.specs.RtpReading.{rtp_at}
 use Rattle.codec_payload_session_requests.specs.Requests.{Asking, heard_by, number_at, wait_by}
+use Rattle.codec_payload_session_stream.specs.Trips.{with_round_trip}
+use Rattle.codec_payload_session.proofs.ReportingLemmas.{exchanged_keeps}
 use Rattle.codec_payload_session_stream.specs.Streams.{Drains, Follows, Plays, RequestsBy, RestsBy, Steps, StepsBy, Takes, end_of, heard_unless, is_accepted, is_no_memory, is_of, is_probation, late_followed, late_noted, left_when, payload_size, received, trip_if, trip_when, trips_where, waiting_for, waiting_if, waiting_when, waiting_where}
 use Rattle.codec_payload_session_stream.specs.Turns.{AreQuiet}
 use Rattle.codec_payload_session.specs.Turns.{TakesTurn, ended_after, kept_after}
@@ -215,7 +217,7 @@ adds most s p place within =
 begins_keep : (settings : SessionSettings) (c : ArrivalCounts) (ssrc : ℕ) (f : Format) (now : Ticks) (bytes : List ℕ) (p : Port) (answer : Result Arrival AllocError) (q : Port)
     → has_place settings.max_streams p ≡ true → BeginsWith settings ssrc f now bytes p answer q → IsPort settings p c → Keeps settings c q answer
 begins_keep settings c ssrc f now bytes p answer q place got kept =
-    let taken : got.after.taken ≡ taken_unless (is_no_memory got.told) got.stream.taken = takes_taken now settings.probation bytes got.stream got.told got.after got.takes in
+    let taken : got.after.taken ≡ taken_unless (is_no_memory got.told) got.stream.taken = takes_taken now settings.probation bytes (with_round_trip p.exchange.round_trip got.stream) got.told got.after got.takes in
     let one : got.after.taken ≡ 1 = taken ∙ ap (λ (b : Bool). taken_unless b got.stream.taken) got.received ∙ ap next got.begins.taken in
     let it : Adds settings.max_streams got.after p (added settings.max_streams got.after p) = adds settings.max_streams got.after p place kept.bounded in
     keeps_by settings c (added settings.max_streams got.after p) q answer (Ok (arrival_of ssrc f.payload_type got.told)) got.answers got.left
@@ -261,7 +263,9 @@ feeds_if_unknown (Some place) settings c now bytes p answer q got kept = feeds_k
 
 keeps_as : (d : Sorted) (settings : SessionSettings) (now : Ticks) (bytes : List ℕ) (c : ArrivalCounts) (p q : Port) (answer : Result Arrival AllocError)
     → TakesInAs d settings now bytes p answer q → IsPort settings p c → Keeps settings c q answer
-keeps_as sorted.Rtcp settings now bytes c p q answer got kept = keeps_by settings c _ q answer (Ok arrivals.Rtcp) got.0 got.1 (rtcp_keeps settings c now bytes _ _ _ p kept)
+keeps_as sorted.Rtcp settings now bytes c p q answer got kept =
+    keeps_by settings c _ q answer (Ok arrivals.Rtcp) got.0 got.1
+    (exchanged_keeps settings.feedback settings (counted_if (Ok arrivals.Rtcp) c) settings.tick_rate now.0 bytes _ (rtcp_keeps settings c now bytes _ _ _ p kept))
 keeps_as sorted.Malformed settings now bytes c p q answer got kept = keeps_by settings c p q answer (Ok arrivals.Malformed) got.0 got.1 (malformed_keeps settings c p kept)
 keeps_as sorted.Unknown settings now bytes c p q answer got kept = keeps_by settings c p q answer (Ok arrivals.Unknown) got.0 got.1 (unknown_keeps settings c p kept)
 keeps_as sorted.Unassociated settings now bytes c p q answer got kept = keeps_by settings c p q answer (Ok arrivals.Unassociated) got.0 got.1 (unassociated_keeps settings c p kept)

@@ -2,6 +2,8 @@
 use Rattle.std.proofs.Common.{◌≡◌, ◌∙◌, refl, ap, sym, subst, ℕ, ◌+◌, ◌-◌, ◌^◌, ◌<◌, ◌≤◌, ◌==◌, ◌&&◌, ◌||◌, not, List, [], ◌∷◌, ◌++◌, Bool, true, false, cond, Option, Some, None, Result, Ok, Err, inl, inr, length, arith}
 use Rattle.std.specs.Prelude.{◌⊎◌, nat_lt, nat_le, if◌then◌else◌}
 use Rattle.std.specs.Global.{Vec}
+use Rattle.std.specs.Option.{is_some}
+use Rattle.codec_payload_feedback_xr.specs.declared.exchange.TimeExchange.{TimeExchange}
 use Rattle.std.specs.declared.alloc.AllocError.{AllocError}
 use Rattle.std.proofs.lemmas.Bool.Decides.{nat_tests}
 use Rattle.codec_payload_base.specs.declared.error.PacketError.{PacketError}
@@ -23,7 +25,7 @@ use Rattle.codec_payload_session.specs.Polls.{GoesOn, Polls, PollsAfter, SendsAf
 use Rattle.codec_payload_session_stream.specs.Events.{report_event, transport_event}
 use Rattle.codec_payload_session.specs.Ports.{Session}
 use Rattle.codec_payload_session_stream.specs.Quiet.{IsBefore, PopsNothing}
-use Rattle.codec_payload_session.specs.Reporting.{ReportsBy, ReportsEach, ReportsIf, any_announced, deadline_if, is_report_due, is_time, report_deadline}
+use Rattle.codec_payload_session.specs.Reporting.{ReportsBy, ReportsEach, ReportsIf, any_announced, deadline_if, is_report_due, is_reporting, is_time, report_deadline}
 use Rattle.codec_payload_session_requests.specs.Requests.{Asking, Asks, is_heard, refreshed, requests_due}
 use Rattle.codec_payload_session_stream.specs.Streams.{Drains, Follows, Plays, Pops, RequestsBy, RestsBy, Steps, StepsBy, StreamState, due_by, due_in, due_of, earlier, end_by, end_of, is_probation, later as time_after, request_deadline, step_of, step_with, work_deadline}
 use Rattle.codec_payload_session_stream.specs.Telephone.{Queue, due_before}
@@ -403,7 +405,7 @@ unreported_if true f interval tick_rate now due p next q got = absurd (some_pack
 
 unreported_each : (o : Option ℕ) (f : FeedbackSettings) (tick_rate now : ℕ) (due : Option ℕ) (p : Port) (next : Option ℕ) (q : Port) → ReportsEach o f tick_rate now due p None next q → q ≡ p
 unreported_each None f tick_rate now due p next q got = got.2
-unreported_each (Some interval) f tick_rate now due p next q got = unreported_if (is_report_due now due p.streams) f interval tick_rate now due p next q got
+unreported_each (Some interval) f tick_rate now due p next q got = unreported_if (is_report_due now due p) f interval tick_rate now due p next q got
 
 unreported : (o : Option FeedbackSettings) (tick_rate now : ℕ) (due : Option ℕ) (p : Port) (next : Option ℕ) (q : Port) → ReportsBy o tick_rate now due p None next q → q ≡ p
 unreported None tick_rate now due p next q got = got.2
@@ -411,14 +413,14 @@ unreported (Some f) tick_rate now due p next q got = unreported_each f.report_in
 
 -- before its time there is no report
 early_each : (o : Option ℕ) (f : FeedbackSettings) (tick_rate now : ℕ) (due : Option ℕ) (p : Port) (packet : Option (Result (Vec ℕ) AllocError)) (next : Option ℕ) (q : Port)
-    → is_report_due now due p.streams ≡ false → ReportsEach o f tick_rate now due p packet next q → packet ≡ None
+    → is_report_due now due p ≡ false → ReportsEach o f tick_rate now due p packet next q → packet ≡ None
 early_each None f tick_rate now due p packet next q early got = got.0
 early_each (Some interval) f tick_rate now due p packet next q early got =
     let none : ReportsIf false f interval tick_rate now due p packet next q = subst (λ (b : Bool). ReportsIf b f interval tick_rate now due p packet next q) early got in
     none.0
 
 early : (o : Option FeedbackSettings) (tick_rate now : ℕ) (due : Option ℕ) (p : Port) (packet : Option (Result (Vec ℕ) AllocError)) (next : Option ℕ) (q : Port)
-    → is_report_due now due p.streams ≡ false → ReportsBy o tick_rate now due p packet next q → packet ≡ None
+    → is_report_due now due p ≡ false → ReportsBy o tick_rate now due p packet next q → packet ≡ None
 early None tick_rate now due p packet next q early_is got = got.0
 early (Some f) tick_rate now due p packet next q early_is got = early_each f.report_interval f tick_rate now due p packet next q early_is got
 
@@ -476,20 +478,22 @@ polled_after (w ∷ ws) now s t is got = absurd (some_event _ got.0)
 none_waits : (q : Queue) (due : Option ℕ) → q.waiting ≡ [] → due_before q due ≡ due
 none_waits q due is = ap (λ (ws : List TelephonePacket). if length ws == 0 then due else Some 0) is
 
-reports_none : (later : Ticks) (t u : Session) (port : Port) (answer : Option Event) → AreQuiet later t.settings.idle_timeout t.port.streams port.streams
-    → IsBefore (report_deadline t.report_due t.port.streams) later.0 → SendsReport later.0 (record t { port = port }) answer u → IsNoEvent answer
-reports_none later t u port answer are before got =
-    let same : any_announced port.streams ≡ any_announced t.port.streams = quiet_announced later t.settings.idle_timeout t.port.streams port.streams are in
-    let early_is : is_report_due later.0 t.report_due port.streams ≡ false = ap (λ (b : Bool). b && is_time later.0 t.report_due) same ∙ not_time (any_announced t.port.streams) later.0 t.report_due before in
+reports_none : (later : Ticks) (t u : Session) (port : Port) (answer : Option Event) → AreQuiet later t.settings.idle_timeout t.port.streams port.streams → port.exchange ≡ t.port.exchange
+    → IsBefore (report_deadline t.report_due t.port) later.0 → SendsReport later.0 (record t { port = port }) answer u → IsNoEvent answer
+reports_none later t u port answer are exchange before got =
+    let same : is_reporting port ≡ is_reporting t.port =
+    ap (λ (b : Bool). b || is_some port.exchange.peer) (quiet_announced later t.settings.idle_timeout t.port.streams port.streams are)
+    ∙ ap (λ (x : TimeExchange). any_announced t.port.streams || is_some x.peer) exchange in
+    let early_is : is_report_due later.0 t.report_due port ≡ false = ap (λ (b : Bool). b && is_time later.0 t.report_due) same ∙ not_time (is_reporting t.port) later.0 t.report_due before in
     let none : got.packet ≡ None = early t.settings.feedback t.settings.tick_rate later.0 t.report_due port got.packet got.due got.port early_is got.reports in
     subst (λ (e : Option Event). IsNoEvent e) (sym (got.answers ∙ ap report_event none)) tt
 
 turns_none : (event : Option Event) (now later : Ticks) (s t u : Session) (port : Port) (answer : Option Event) → Polled now s t → held_in t.port.streams ≡ held_in s.port.streams
-    → now.0 ≤ later.0 → later.0 < 2 ^ 64 → IsBefore (due_in t.settings.idle_timeout t.port.streams) later.0 → IsBefore (report_deadline t.report_due t.port.streams) later.0
+    → now.0 ≤ later.0 → later.0 < 2 ^ 64 → IsBefore (due_in t.settings.idle_timeout t.port.streams) later.0 → IsBefore (report_deadline t.report_due t.port) later.0
     → TakesTurn later t.settings.idle_timeout t.port event port → GoesOn event later.0 (record t { port = port }) answer u → IsNoEvent answer
 turns_none None now later s t u port answer it same after few due report turn got =
     let streams : port.streams ≡ turn.0 = ap (λ (p : Port). p.streams) turn.2 in
-    reports_none later t u port answer (subst (λ (ts : List StreamState). AreQuiet later t.settings.idle_timeout t.port.streams ts) (sym streams) turn.1) report got
+    reports_none later t u port answer (subst (λ (ts : List StreamState). AreQuiet later t.settings.idle_timeout t.port.streams ts) (sym streams) turn.1) (ap (λ (p : Port). p.exchange) turn.2) report got
 turns_none (Some event) now later s t u port answer it same after few due report turn got =
     let quiet : AreQuiet now t.settings.idle_timeout s.port.streams (turn.front ++ turn.stream ∷ turn.rest) =
     subst (λ (ts : List StreamState). AreQuiet now t.settings.idle_timeout s.port.streams ts) turn.there
@@ -540,10 +544,10 @@ sends_none (Some event) later t after u answer same before quiet got = subst (λ
 again_none : (now later : Ticks) (s t u : Session) (answer : Option Event) → Polled now s t → held_in t.port.streams ≡ held_in s.port.streams → now.0 ≤ later.0 → later.0 < 2 ^ 64
     → IsBefore (next_of t) later.0 → Polls later t answer u → IsNoEvent answer
 again_none now later s t u answer it same after few before got =
-    let due : Option ℕ = earlier (due_in t.settings.idle_timeout t.port.streams) (report_deadline t.report_due t.port.streams) in
+    let due : Option ℕ = earlier (due_in t.settings.idle_timeout t.port.streams) (report_deadline t.report_due t.port) in
     let all = earlier_both due (transport_deadline t.transport) later.0
     (subst (λ (o : Option ℕ). IsBefore o later.0) (none_waits t.telephone (earlier due (transport_deadline t.transport)) it.waiting) before) in
-    let both = earlier_both (due_in t.settings.idle_timeout t.port.streams) (report_deadline t.report_due t.port.streams) later.0 all.0 in
+    let both = earlier_both (due_in t.settings.idle_timeout t.port.streams) (report_deadline t.report_due t.port) later.0 all.0 in
     let sends : TurnsOrSends later t answer u = subst (λ (ws : List TelephonePacket). PollsAfter ws later t answer u) it.waiting got in
     let turns : TurnsOrReports later t sends.event sends.after = sends.turn in
     sends_none sends.event later.0 t sends.after u answer

@@ -177,7 +177,7 @@ poll_before : (place : ℕ) (a : Asking) (s : StreamState) (t : Session) → IsA
     → IsBefore (next_of t) now → may_ask a now ≡ false
 poll_before place a s t it there is now plays before =
     let streams : Option ℕ = due_in t.settings.idle_timeout t.port.streams in
-    let report : Option ℕ = report_deadline t.report_due t.port.streams in
+    let report : Option ℕ = report_deadline t.report_due t.port in
     let all : IsBefore (earlier (earlier streams report) (transport_deadline t.transport)) now = waits_before t.telephone (earlier (earlier streams report) (transport_deadline t.transport)) now before in
     let first : IsBefore (earlier streams report) now = (earlier_both (earlier streams report) (transport_deadline t.transport) now all).0 in
     stream_before a t.settings.idle_timeout s now it plays is (due_at t.settings.idle_timeout place t.port.streams s now there (earlier_both streams report now first).0)

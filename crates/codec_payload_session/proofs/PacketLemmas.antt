@@ -11,7 +11,7 @@ use Rattle.codec_payload_rtcp.specs.SdesWriting.{description_bytes}
 use Rattle.codec_payload_rtcp.specs.declared.items.ReportBlock.{ReportBlock}
 use Rattle.codec_payload_rtcp.proofs.ExactWriting.{name_chunk_length}
 use Rattle.codec_payload_session_requests.specs.Requests.{source_for}
-use Rattle.codec_payload_session.specs.Reporting.{AppendsGroups, AreGroups, IsReport, blocks_within, bytes_of, most_blocks, name_length, report_of_group, report_packets}
+use Rattle.codec_payload_session.specs.Reporting.{AppendsGroups, AreGroups, IsReport, blocks_within, bytes_of, extended_length, most_blocks, name_length, report_of_group, report_packets}
 use Rattle.codec_payload_session_formats.specs.declared.formats.FeedbackSettings.{FeedbackSettings}
 
 -- ---- blocks of 24 bytes
@@ -141,32 +141,40 @@ name_written (Err e) ssrc name a b some written = tt
 
 -- ---- the packet
 
-compound_by : (f : FeedbackSettings) (groups : List (List ℕ)) (blocks bytes : List ℕ) → AreCompound → AreGroups groups blocks → AreUnpadded (report_packets f groups) bytes
-    → IsCompound true (report_packets f groups) bytes
-compound_by f [] blocks bytes all groups are = absurd groups
-compound_by f (g ∷ gs) blocks bytes all groups are = record {
-  are = all (report_of_group f.ssrc g) (map (report_of_group f.ssrc) gs ++ cname_part (source_for f)) bytes are;
+compound_by : (f : FeedbackSettings) (groups : List (List ℕ)) (extended : List Packet) (blocks bytes : List ℕ) → AreCompound → AreGroups groups blocks → AreUnpadded (report_packets f groups extended) bytes
+    → IsCompound true (report_packets f groups extended) bytes
+compound_by f [] extended blocks bytes all groups are = absurd groups
+compound_by f (g ∷ gs) extended blocks bytes all groups are = record {
+  are = all (report_of_group f.ssrc g) (map (report_of_group f.ssrc) gs ++ (cname_part (source_for f) ++ extended)) bytes are;
   report = λ full. refl;
 }
 
-pub is_report : (f : FeedbackSettings) (blocks a b c : List ℕ) → AreCompound → a ≡ [] → AppendsGroups f.ssrc blocks a b → AppendsAll (cname_part (source_for f)) b c
-    → length blocks ≤ 24 * most_blocks f → length c ≡ length b + name_length (min 255 (length f.cname.items)) → IsReport f blocks c
-is_report f blocks a b c all none groups name few named =
+-- what the blocks leave of the bytes of the settings
+less_room : (long size name more : ℕ) → long ≤ 24 * max 1 (blocks_within (size - name - more)) → long ≤ 24 * max 1 (blocks_within (size - (name + more)))
+less_room long size name more few = let same : size - name - more ≡ size - (name + more) = omega arith in subst (λ (n : ℕ). long ≤ 24 * max 1 (blocks_within n)) same few
+
+pub is_report : (f : FeedbackSettings) (extended : List Packet) (blocks a b c d : List ℕ) → AreCompound → a ≡ [] → AppendsGroups f.ssrc blocks a b → AppendsAll (cname_part (source_for f)) b c
+    → AppendsAll extended c d → length blocks ≤ 24 * most_blocks f → length c ≡ length b + name_length (min 255 (length f.cname.items)) → length d ≤ length c + extended_length f.extended → IsReport f blocks extended d
+is_report f extended blocks a b c d all none groups name more few named small =
+    let name_size : ℕ = name_length (min 255 (length f.cname.items)) in
+    let more_size : ℕ = extended_length f.extended in
     let sized : length groups.2.0 ≡ 8 * length groups.0 + total groups.0 = groups_length f.ssrc groups.0 groups.2.0 groups.2.1 in
     let reports : length b ≡ 8 * length groups.0 + length blocks =
     omega (arith, sized, total_is groups.0 blocks groups.1, ap (λ (l : List ℕ). length l) groups.2.2, ap (λ (l : List ℕ). length l) none, length-append a groups.2.0) in
-    let written : AppendsAll (report_packets f groups.0) a c = both (map (report_of_group f.ssrc) groups.0) (cname_part (source_for f)) a b c groups.2 name in
-    let are : AreUnpadded (report_packets f groups.0) c =
-    subst (λ (l : List ℕ). AreUnpadded (report_packets f groups.0) l) (sym (written.2 ∙ ap (λ (l : List ℕ). l ++ written.0) none)) written.1 in
+    let rest : AppendsAll (cname_part (source_for f) ++ extended) b d = both (cname_part (source_for f)) extended b c d name more in
+    let written : AppendsAll (report_packets f groups.0 extended) a d = both (map (report_of_group f.ssrc) groups.0) (cname_part (source_for f) ++ extended) a b d groups.2 rest in
+    let are : AreUnpadded (report_packets f groups.0 extended) d =
+    subst (λ (l : List ℕ). AreUnpadded (report_packets f groups.0 extended) l) (sym (written.2 ∙ ap (λ (l : List ℕ). l ++ written.0) none)) written.1 in
     record {
       fits = omega (
         arith,
         reports,
         named,
-        fits_either (length groups.0) (length blocks) (name_length (min 255 (length f.cname.items))) f.max_report (few_groups groups.0 blocks groups.1) few (within_or_more (length blocks)),
+        small,
+        fits_either (length groups.0) (length blocks) (name_size + more_size) f.max_report (few_groups groups.0 blocks groups.1) (less_room (length blocks) f.max_report name_size more_size few) (within_or_more (length blocks)),
       );
       groups = groups.0;
       are_groups = groups.1;
       unpadded = are;
-      compound = compound_by f groups.0 blocks c all groups.1 are;
+      compound = compound_by f groups.0 extended blocks d all groups.1 are;
     }

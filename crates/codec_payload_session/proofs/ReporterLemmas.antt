@@ -7,9 +7,10 @@ use Rattle.std.specs.Global.{Vec}
 use Rattle.std.specs.List.{cons_option, filter_map}
 use Rattle.std.specs.declared.alloc.AllocError.{AllocError}
 use Rattle.codec_payload_rtcp.specs.declared.items.ReportBlock.{ReportBlock}
+use Rattle.codec_payload_feedback_xr.specs.Exchange.{reference_time}
 use Rattle.codec_payload_session.specs.Arrivals.{Port}
 use Rattle.codec_payload_session_stream.specs.Reports.{block_of, reported_if}
-use Rattle.codec_payload_session.specs.Reporting.{IsReport, Reports, ReportsEach, ReportsIf, all_reported, blocks_of, bytes_if, bytes_of, due_after, due_if, due_streams, has_announced, is_chosen, is_due, is_first_chosen, is_first_due, is_new_round, is_report_due, is_reported, most_blocks, room_after}
+use Rattle.codec_payload_session.specs.Reporting.{IsReport, Reports, ReportsEach, ReportsIf, all_reported, blocks_of, bytes_if, bytes_of, due_after, due_if, due_streams, extended_part, has_announced, is_chosen, is_due, is_first_chosen, is_first_due, is_new_round, is_report_due, is_reported, most_blocks, noted_sent, room_after}
 use Rattle.codec_payload_session_formats.specs.declared.formats.FeedbackSettings.{FeedbackSettings}
 use Rattle.codec_payload_session_stream.specs.declared.stream.StreamState.{StreamState}
 
@@ -189,14 +190,14 @@ take_turns is_new room (s ∷ ss) =
 -- ---- a report is sent
 
 sends_by : (f : FeedbackSettings) (interval tick_rate now : ℕ) (due : Option ℕ) (p : Port) (packet : Result (Vec ℕ) AllocError) (next : Option ℕ) (q : Port)
-    → IfOk packet (λ bytes. IsReport f (bytes_of (blocks_of (is_new_round (most_blocks f) p.streams) (most_blocks f) tick_rate now p.streams)) bytes.items) → IfOk packet (λ bytes. q ≡ record p { streams = all_reported (is_new_round (most_blocks f) p.streams) (most_blocks f) p.streams }) → IfErr packet (λ e. q ≡ p)
+    → IfOk packet (λ bytes. IsReport f (bytes_of (blocks_of (is_new_round (most_blocks f) p.streams) (most_blocks f) tick_rate now p.streams)) (extended_part f (reference_time now tick_rate) p.exchange) bytes.items) → IfOk packet (λ bytes. q ≡ noted_sent (record p { streams = all_reported (is_new_round (most_blocks f) p.streams) (most_blocks f) p.streams })) → IfErr packet (λ e. q ≡ p)
     → next ≡ due_after packet interval now due → Reports f interval tick_rate now due p packet next q
 sends_by f interval tick_rate now due p (Ok packet) next q is after stays then = (is, then, after)
 sends_by f interval tick_rate now due p (Err e) next q is after stays then = (then, stays)
 
 pub sends : (f : FeedbackSettings) (wanted : Option ℕ) (interval tick_rate now : ℕ) (due : Option ℕ) (p : Port) (packet : Result (Vec ℕ) AllocError) (next : Option ℕ) (q : Port)
-    → wanted ≡ Some interval → is_report_due now due p.streams ≡ true
-    → IfOk packet (λ bytes. IsReport f (bytes_of (blocks_of (is_new_round (most_blocks f) p.streams) (most_blocks f) tick_rate now p.streams)) bytes.items) → IfOk packet (λ bytes. q ≡ record p { streams = all_reported (is_new_round (most_blocks f) p.streams) (most_blocks f) p.streams }) → IfErr packet (λ e. q ≡ p)
+    → wanted ≡ Some interval → is_report_due now due p ≡ true
+    → IfOk packet (λ bytes. IsReport f (bytes_of (blocks_of (is_new_round (most_blocks f) p.streams) (most_blocks f) tick_rate now p.streams)) (extended_part f (reference_time now tick_rate) p.exchange) bytes.items) → IfOk packet (λ bytes. q ≡ noted_sent (record p { streams = all_reported (is_new_round (most_blocks f) p.streams) (most_blocks f) p.streams })) → IfErr packet (λ e. q ≡ p)
     → next ≡ due_after packet interval now due → ReportsEach wanted f tick_rate now due p (Some packet) next q
 sends f wanted interval tick_rate now due p packet next q some time is after stays then =
     subst (λ (w : Option ℕ). ReportsEach w f tick_rate now due p (Some packet) next q) (sym some)

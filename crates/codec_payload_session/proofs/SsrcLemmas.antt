@@ -15,6 +15,7 @@ use Rattle.codec_payload_receiver.specs.declared.receiver.ReceiveError.{ReceiveE
 use Rattle.codec_payload_receiver.specs.Sessions.{Session as Receiver}
 use Rattle.std.specs.declared.result.Result.{Result}
 use Rattle.codec_payload_rtp.specs.RtpReading.{rtp_at}
+use Rattle.codec_payload_session_stream.specs.Trips.{with_round_trip, with_round_trips}
 use Rattle.codec_payload_session_stream.specs.Streams.{Drains, RequestsBy, RestsBy, Steps, StepsBy, is_of, Follows, StreamState, Takes, end_of, heard_unless, is_accepted, is_no_memory, is_probation, late_followed, late_noted, left_when, payload_size, received, trip_when, waiting_for, waiting_when}
 use Rattle.codec_payload_jitter.specs.declared.jitter.WaitLimits.{WaitLimits}
 use Rattle.codec_payload_session.specs.Arrivals.{has_ssrc}
@@ -310,6 +311,9 @@ waiting_when_ssrc false limits s = refl
 pub trip_when_ssrc : (b : Bool) (round_trip : Option ℕ) (s : StreamState) → (trip_when b round_trip s).ssrc ≡ s.ssrc
 trip_when_ssrc true round_trip s = waiting_ssrc _ _
 trip_when_ssrc false round_trip s = refl
+
+pub same_trips : (round_trip : Option ℕ) (ss : List StreamState) → ssrcs_of (with_round_trips round_trip ss) ≡ ssrcs_of ss
+same_trips round_trip ss = same_mapped (with_round_trip round_trip) ss (λ s. refl)
 
 pub paired_when_ssrc : (b : Bool) (pairs : List SsrcPair) (s : StreamState) → (paired_when b pairs s).ssrc ≡ s.ssrc
 paired_when_ssrc true pairs s = refl

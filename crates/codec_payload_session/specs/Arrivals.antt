@@ -12,7 +12,11 @@ use Rattle.codec_payload_rtcp.specs.declared.packet.RtcpError.{RtcpError}
 use Rattle.codec_payload_receiver.specs.declared.receiver.ReceiveError.{ReceiveError}
 use Rattle.codec_payload_session_stream.specs.Reports.{noted_at}
 use Rattle.codec_payload_session_stream.specs.Changes.{continued, continues}
+use Rattle.codec_payload_session_stream.specs.Trips.{with_round_trip, with_round_trips}
 use Rattle.codec_payload_session_stream.specs.Streams.{Begins, Takes, info_of, is_no_memory, is_of, is_probation, left_when}
+use Rattle.codec_payload_feedback_xr.specs.Exchange.{any_answer, exchanged}
+use Rattle.codec_payload_feedback_xr.specs.declared.exchange.TimeExchange.{TimeExchange}
+use Rattle.codec_payload_session_formats.specs.declared.formats.FeedbackSettings.{FeedbackSettings}
 use Rattle.codec_payload_session_formats.specs.declared.formats.Format.{Format}
 use Rattle.codec_payload_session_formats.specs.declared.formats.SessionSettings.{SessionSettings}
 use Rattle.codec_payload_session_stream.specs.declared.arrival.Arrival.{Arrival}
@@ -30,13 +34,14 @@ use Rattle.codec_payload_session_stream.specs.Arrivals.{arrival_of, Arrives}
 abbrev pub sum_wrapped : ℕ → ℕ → ℕ
 sum_wrapped m n = (m + n) % 2 ^ 64
 
--- the streams in the order in which they began, whether new streams are refused, how many datagrams the removed streams took, and
--- what was known of the stream that was removed last
+-- the streams in the order in which they began, whether new streams are refused, how many datagrams the removed streams took, what was
+-- known of the stream that was removed last, and what the session knows by extended reports
 pub record Port : Type 0 where
   pub streams : List StreamState
   pub finished : Bool
   pub ended : ℕ
   pub last : Option StreamInfo
+  pub exchange : TimeExchange
 
 -- ---- streams that end
 
@@ -88,6 +93,35 @@ left_if who why at s = left_when (who s.ssrc) why at s
 abbrev pub left_where : (ℕ → Bool) → Ending → ℕ → List StreamState → List StreamState
 left_where who why at ss = map (left_if who why at) ss
 
+-- ---- extended reports
+
+-- all streams follow the round trip of the session
+abbrev pub with_trip : Port → Port
+with_trip p = record p { streams = with_round_trips p.exchange.round_trip p.streams }
+
+abbrev pub with_trip_if : Bool → Port → Port
+with_trip_if true p = with_trip p
+with_trip_if false p = p
+
+-- packets came for this SSRC; if one has an answer that gives a round trip, all streams follow it
+abbrev pub exchanged_with : (ssrc tick_rate now : ℕ) → List Packet → Port → Port
+exchanged_with ssrc tick_rate now ps p =
+    with_trip_if (any_answer ssrc tick_rate now ps) (record p { exchange = exchanged ssrc tick_rate now ps p.exchange })
+
+-- a compound packet with a fault has no extended reports
+abbrev pub exchanged_in : (ssrc tick_rate now : ℕ) → Result (List Packet) RtcpError → Port → Port
+exchanged_in ssrc tick_rate now (Ok ps) p = exchanged_with ssrc tick_rate now ps p
+exchanged_in ssrc tick_rate now (Err e) p = p
+
+abbrev pub exchanged_if : Bool → (ssrc tick_rate now : ℕ) → List ℕ → Port → Port
+exchanged_if true ssrc tick_rate now bytes p = exchanged_in ssrc tick_rate now (compound_at false bytes) p
+exchanged_if false ssrc tick_rate now bytes p = p
+
+-- the settings say whether the session takes extended reports, and for which SSRC
+abbrev pub exchanged_by : Option FeedbackSettings → (tick_rate now : ℕ) → List ℕ → Port → Port
+exchanged_by None tick_rate now bytes p = p
+exchanged_by (Some f) tick_rate now bytes p = exchanged_if f.extended f.ssrc tick_rate now bytes p
+
 -- ---- a datagram for a stream that exists
 
 -- the stream at a place receives it, and no other stream changes
@@ -132,13 +166,13 @@ without (Some place) p = removed place p
 abbrev pub added : ℕ → StreamState → Port → Port
 added most s p = without (leaving most p.streams) (record p { streams = p.streams ++ s ∷ [] })
 
--- a new stream receives the datagram, and is added
+-- a new stream follows the round trip of the session, receives the datagram, and is added
 pub record BeginsWith (settings : SessionSettings) (ssrc : ℕ) (f : Format) (now : Ticks) (bytes : List ℕ) (p : Port) (answer : Result Arrival AllocError) (q : Port) : Type 0 where
   pub stream : StreamState
   pub after : StreamState
   pub told : Result Outcome ReceiveError
   pub begins : Begins settings ssrc f stream
-  pub takes : Takes now settings.probation bytes stream told after
+  pub takes : Takes now settings.probation bytes (with_round_trip p.exchange.round_trip stream) told after
   pub received : is_no_memory told ≡ false
   pub answers : answer ≡ Ok (arrival_of ssrc f.payload_type told)
   pub left : q ≡ added settings.max_streams after p
@@ -163,14 +197,16 @@ pub record TakesMedia (settings : SessionSettings) (ssrc : ℕ) (f : Format) (no
   pub takes : BeginsOrFeeds (position (is_of ssrc f.payload_type) p.streams) settings ssrc f now bytes p answer received
   pub left : q ≡ record received { streams = continued (is_ok answer && continues ssrc f received.streams) now.0 settings.bye_wait ssrc f received.streams }
 
--- ---- any datagram; RTCP ends the streams that its BYE names, and states clocks of streams by its sender reports
+-- ---- any datagram; RTCP ends the streams that its BYE names, states clocks of streams by its sender reports, and the round trip by its
+-- extended reports
 
 abbrev pub has_ssrc : ℕ → StreamState → Bool
 has_ssrc ssrc s = s.ssrc == ssrc
 
 abbrev pub TakesInAs : Sorted → SessionSettings → Ticks → List ℕ → Port → Result Arrival AllocError → Port → Type 0
 TakesInAs sorted.Rtcp settings now bytes p answer q =
-    (answer ≡ Ok arrivals.Rtcp) × (q ≡ record p { streams = left_where (goodbye_at bytes) endings.Bye (min (now.0 + settings.bye_wait) (2 ^ 64 - 1)) (noted_at now bytes p.streams) })
+    (answer ≡ Ok arrivals.Rtcp)
+    × (q ≡ exchanged_by settings.feedback settings.tick_rate now.0 bytes (record p { streams = left_where (goodbye_at bytes) endings.Bye (min (now.0 + settings.bye_wait) (2 ^ 64 - 1)) (noted_at now bytes p.streams) }))
 TakesInAs sorted.Malformed settings now bytes p answer q = (answer ≡ Ok arrivals.Malformed) × (q ≡ p)
 TakesInAs sorted.Unknown settings now bytes p answer q = (answer ≡ Ok arrivals.Unknown) × (q ≡ p)
 TakesInAs sorted.Unassociated settings now bytes p answer q = (answer ≡ Ok arrivals.Unassociated) × (q ≡ p)

@@ -17,7 +17,7 @@ use Rattle.codec_payload_session_stream.specs.declared.stream.StreamState.{Strea
 abbrev pub next_of : Session → Option ℕ
 next_of s =
     due_before s.telephone
-    (earlier (earlier (due_in s.settings.idle_timeout s.port.streams) (report_deadline s.report_due s.port.streams)) (transport_deadline s.transport))
+    (earlier (earlier (due_in s.settings.idle_timeout s.port.streams) (report_deadline s.report_due s.port)) (transport_deadline s.transport))
 
 -- how many packets the streams hold
 abbrev pub held_in : List StreamState → ℕ

@@ -5,6 +5,7 @@ use Rattle.std.specs.Option.{option_map}
 use Rattle.std.specs.declared.alloc.AllocError.{AllocError}
 use Rattle.codec_payload_base.specs.declared.wire.Ticks.{Ticks}
 use Rattle.codec_payload_feedback.specs.Transport.{Reporter}
+use Rattle.codec_payload_feedback_xr.specs.Exchange.{no_exchange}
 use Rattle.codec_payload_jitter.specs.Receiving.{next}
 use Rattle.codec_payload_session.specs.Arrivals.{Port, TakesIn, left_where}
 use Rattle.codec_payload_session_formats.specs.Checks.{fault_of}
@@ -37,7 +38,7 @@ pub record Session : Type 0 where
   pub transport : Option Reporter
 
 abbrev pub no_port : Port
-no_port = record { streams = []; finished = false; ended = 0; last = None }
+no_port = record { streams = []; finished = false; ended = 0; last = None; exchange = no_exchange }
 
 abbrev pub no_counts : ArrivalCounts
 no_counts = record { received = 0; rtcp = 0; malformed = 0; unknown = 0; refused = 0; unassociated = 0 }

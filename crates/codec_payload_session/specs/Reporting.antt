@@ -2,13 +2,16 @@
 use Rattle.std.specs.Prelude.{◌≡◌, ◌≤◌, ℕ, zero, suc, ◌+◌, ◌-◌, ◌*◌, ◌/◌, ◌%◌, max, min, ◌==◌, ◌&&◌, ◌||◌, not, nat_le, Bool, true, false, List, [], ◌∷◌, ◌++◌, map, take, Option, Some, None, Result, Ok, Err, length}
 use Rattle.std.specs.Global.{Vec}
 use Rattle.std.specs.List.{filter_map, flat_map}
+use Rattle.std.specs.Option.{is_some}
 use Rattle.std.specs.declared.alloc.AllocError.{AllocError}
 use Rattle.codec_payload_feedback.specs.Feedback.{AppendsAll, cname_part}
 use Rattle.codec_payload_rtcp.specs.RtcpItems.{block_bytes}
 use Rattle.codec_payload_rtcp.specs.RtcpPackets.{IsCompound, Packet, receiver_report}
 use Rattle.codec_payload_rtcp.specs.RtcpWriting.{AreUnpadded}
 use Rattle.codec_payload_rtcp.specs.declared.items.ReportBlock.{ReportBlock}
-use Rattle.codec_payload_session.specs.Arrivals.{Port}
+use Rattle.codec_payload_feedback_xr.specs.Exchange.{exchange_packets, is_lost, reference_time, sent}
+use Rattle.codec_payload_feedback_xr.specs.declared.exchange.TimeExchange.{TimeExchange}
+use Rattle.codec_payload_session.specs.Arrivals.{Port, with_trip_if}
 use Rattle.codec_payload_session_stream.specs.Reports.{block_of, reported_if}
 use Rattle.codec_payload_session_requests.specs.Requests.{source_for}
 use Rattle.codec_payload_session_stream.specs.Streams.{later}
@@ -89,13 +92,18 @@ name_length (suc n) = 12 + 4 * ((suc n + 2) / 4)
 abbrev pub blocks_within : ℕ → ℕ
 blocks_within bytes = 31 * (bytes / 752) + (bytes % 752 - 8) / 24
 
--- as many blocks as fit beside the name; at least one
+-- the room for extended reports: a reference time in 20 bytes, and an answer in 24
+abbrev pub extended_length : Bool → ℕ
+extended_length true = 44
+extended_length false = 0
+
+-- as many blocks as fit beside the name and the extended reports; at least one
 abbrev pub most_blocks : FeedbackSettings → ℕ
-most_blocks f = max 1 (blocks_within (f.max_report - name_length (min 255 (length f.cname.items))))
+most_blocks f = max 1 (blocks_within (f.max_report - name_length (min 255 (length f.cname.items)) - extended_length f.extended))
 
 -- the bytes of a report with one block
 abbrev pub least_report : FeedbackSettings → ℕ
-least_report f = 32 + name_length (min 255 (length f.cname.items))
+least_report f = 32 + (name_length (min 255 (length f.cname.items)) + extended_length f.extended)
 
 -- the blocks as they are in a packet, 24 bytes each
 abbrev pub bytes_of : List ReportBlock → List ℕ
@@ -118,18 +126,26 @@ report_of_group ssrc blocks = receiver_report (record { ssrc = ssrc; blocks = bl
 abbrev pub AppendsGroups : ℕ → List ℕ → List ℕ → List ℕ → Type 0
 AppendsGroups ssrc blocks old new = (groups : List (List ℕ)) × AreGroups groups blocks × AppendsAll (map (report_of_group ssrc) groups) old new
 
-abbrev pub report_packets : FeedbackSettings → List (List ℕ) → List Packet
-report_packets f groups = map (report_of_group f.ssrc) groups ++ cname_part (source_for f)
+abbrev pub extended_if : Bool → (ssrc time : ℕ) → TimeExchange → List Packet
+extended_if true ssrc time x = exchange_packets ssrc time x
+extended_if false ssrc time x = []
 
--- a compound packet: receiver reports with the bytes of these blocks, 31 blocks in each but the last, and the name of the
--- session, if it has one. Without a block there is one empty report. The packet fits into the bytes of the settings, unless these
--- have no room for one block
-pub record IsReport (f : FeedbackSettings) (blocks : List ℕ) (bytes : List ℕ) : Type 0 where
+-- the extended reports that leave at this NTP time, if the session has them
+abbrev pub extended_part : FeedbackSettings → ℕ → TimeExchange → List Packet
+extended_part f time x = extended_if f.extended f.ssrc time x
+
+abbrev pub report_packets : FeedbackSettings → List (List ℕ) → List Packet → List Packet
+report_packets f groups extended = map (report_of_group f.ssrc) groups ++ (cname_part (source_for f) ++ extended)
+
+-- a compound packet: receiver reports with the bytes of these blocks, 31 blocks in each but the last, the name of the session, if it
+-- has one, and these extended reports. Without a block there is one empty report. The packet fits into the bytes of the settings,
+-- unless these have no room for one block
+pub record IsReport (f : FeedbackSettings) (blocks : List ℕ) (extended : List Packet) (bytes : List ℕ) : Type 0 where
   pub fits : length bytes ≤ max f.max_report (least_report f)
   pub groups : List (List ℕ)
   pub are_groups : AreGroups groups blocks
-  pub unpadded : AreUnpadded (report_packets f groups) bytes
-  pub compound : IsCompound true (report_packets f groups) bytes
+  pub unpadded : AreUnpadded (report_packets f groups extended) bytes
+  pub compound : IsCompound true (report_packets f groups extended) bytes
 
 -- ---- when a report is sent
 
@@ -141,15 +157,22 @@ abbrev pub is_time : ℕ → Option ℕ → Bool
 is_time now None = false
 is_time now (Some at) = nat_le at now
 
--- a report is due: its time has come, and a stream is announced
-abbrev pub is_report_due : ℕ → Option ℕ → List StreamState → Bool
-is_report_due now due ss = any_announced ss && is_time now due
+-- there is something to report: a stream is announced, or a reference time waits for its answer
+abbrev pub is_reporting : Port → Bool
+is_reporting p = any_announced p.streams || is_some p.exchange.peer
+
+abbrev pub is_due_if : Bool → ℕ → Option ℕ → Bool
+is_due_if reporting now due = reporting && is_time now due
+
+-- a report is due: its time has come, and there is something to report
+abbrev pub is_report_due : ℕ → Option ℕ → Port → Bool
+is_report_due now due p = is_due_if (is_reporting p) now due
 
 abbrev pub due_again : ℕ → ℕ → Option ℕ → Option ℕ
 due_again interval now None = later now (max 1 interval)
 due_again interval now (Some at) = Some at
 
--- without an announced stream no report is planned; the first one is due one interval after there is one
+-- with nothing to report no report is planned; the first one is due one interval after there is something
 abbrev pub planned : Bool → ℕ → ℕ → Option ℕ → Option ℕ
 planned false interval now due = None
 planned true interval now due = due_again interval now due
@@ -159,33 +182,38 @@ abbrev pub due_after : Result (Vec ℕ) AllocError → ℕ → ℕ → Option �
 due_after (Ok packet) interval now due = later now (max 1 interval)
 due_after (Err e) interval now due = due
 
--- the packet has the blocks of the streams whose turn it is, and the next one is due one interval later; if memory runs out,
--- nothing has changed
+-- after a report without an answer to the three before it the round trip is not known any more
+abbrev pub noted_sent : Port → Port
+noted_sent p = with_trip_if (is_lost p.exchange) (record p { exchange = sent p.exchange })
+
+-- the packet has the blocks of the streams whose turn it is, and the extended reports, and the next one is due one interval later; if
+-- memory runs out, nothing has changed
 abbrev pub Reports : FeedbackSettings → (interval tick_rate now : ℕ) → Option ℕ → Port → Result (Vec ℕ) AllocError → Option ℕ → Port → Type 0
 Reports f interval tick_rate now due p (Ok packet) next q =
-    IsReport f (bytes_of (blocks_of (is_new_round (most_blocks f) p.streams) (most_blocks f) tick_rate now p.streams)) packet.items × (next ≡ later now (max 1 interval))
-    × (q ≡ record p { streams = all_reported (is_new_round (most_blocks f) p.streams) (most_blocks f) p.streams })
+    IsReport f (bytes_of (blocks_of (is_new_round (most_blocks f) p.streams) (most_blocks f) tick_rate now p.streams)) (extended_part f (reference_time now tick_rate) p.exchange) packet.items
+    × (next ≡ later now (max 1 interval))
+    × (q ≡ noted_sent (record p { streams = all_reported (is_new_round (most_blocks f) p.streams) (most_blocks f) p.streams }))
 Reports f interval tick_rate now due p (Err e) next q = (next ≡ due) × (q ≡ p)
 
 abbrev pub ReportsIf : Bool → FeedbackSettings → (interval tick_rate now : ℕ) → Option ℕ → Port → Option (Result (Vec ℕ) AllocError) → Option ℕ → Port → Type 0
-ReportsIf false f interval tick_rate now due p answer next q = (answer ≡ None) × (next ≡ planned (any_announced p.streams) interval now due) × (q ≡ p)
+ReportsIf false f interval tick_rate now due p answer next q = (answer ≡ None) × (next ≡ planned (is_reporting p) interval now due) × (q ≡ p)
 ReportsIf true f interval tick_rate now due p answer next q =
     (packet : Result (Vec ℕ) AllocError) × (answer ≡ Some packet) × Reports f interval tick_rate now due p packet next q
 
 abbrev pub ReportsEach : Option ℕ → FeedbackSettings → (tick_rate now : ℕ) → Option ℕ → Port → Option (Result (Vec ℕ) AllocError) → Option ℕ → Port → Type 0
 ReportsEach None f tick_rate now due p answer next q = (answer ≡ None) × (next ≡ due) × (q ≡ p)
 ReportsEach (Some interval) f tick_rate now due p answer next q =
-    ReportsIf (is_report_due now due p.streams) f interval tick_rate now due p answer next q
+    ReportsIf (is_report_due now due p) f interval tick_rate now due p answer next q
 
 -- the settings say whether reports are sent, and how often; due and next are when the next report is due, before and after
 abbrev pub ReportsBy : Option FeedbackSettings → (tick_rate now : ℕ) → Option ℕ → Port → Option (Result (Vec ℕ) AllocError) → Option ℕ → Port → Type 0
 ReportsBy None tick_rate now due p answer next q = (answer ≡ None) × (next ≡ due) × (q ≡ p)
 ReportsBy (Some f) tick_rate now due p answer next q = ReportsEach f.report_interval f tick_rate now due p answer next q
 
--- when the next report is due, as long as a stream is announced
+-- when the next report is due, as long as there is something to report
 abbrev pub deadline_if : Bool → Option ℕ → Option ℕ
 deadline_if true due = due
 deadline_if false due = None
 
-abbrev pub report_deadline : Option ℕ → List StreamState → Option ℕ
-report_deadline due ss = deadline_if (any_announced ss) due
+abbrev pub report_deadline : Option ℕ → Port → Option ℕ
+report_deadline due p = deadline_if (is_reporting p) due

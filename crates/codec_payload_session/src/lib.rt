@@ -7,6 +7,7 @@ pub use codec_payload_session_stream::{reports, stream};
 
 mod association;
 mod compound;
+mod exchange;
 mod former;
 mod goodbyes;
 pub mod keyframe;

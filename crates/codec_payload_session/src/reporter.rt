@@ -3,14 +3,16 @@
 
 ghost use Rattle.std.specs.Prelude.{◌≡◌, ◌++◌, ◌+◌, ◌*◌, min, ◌<◌, ◌≤◌, ◌%◌, drop, max, IfErr, IfOk, OnOk, length};
 ghost use Rattle.codec_payload_feedback.specs.Feedback.{AppendsAll, cname_by, cname_part};
+ghost use Rattle.codec_payload_feedback_xr.specs.Exchange.{reference_time};
 ghost use Rattle.codec_payload_rtcp.specs.RtcpWriting.{Appends};
-ghost use Rattle.codec_payload_session.specs.Reporting.{AppendsGroups, IsReport, ReportsBy, ReportsEach, TakeTurns, all_reported, any_announced, blocks_of, blocks_within, bytes_if, bytes_of, due_after, due_streams, has_announced, is_first_chosen, is_first_due, is_first_reported, is_new_round, is_report_due, is_time, most_blocks, name_length, planned, report_deadline, report_of_group, room_after};
+ghost use Rattle.codec_payload_session.specs.Reporting.{AppendsGroups, IsReport, ReportsBy, ReportsEach, TakeTurns, all_reported, any_announced, blocks_of, blocks_within, bytes_if, bytes_of, deadline_if, due_after, due_streams, extended_length, extended_part, has_announced, is_due_if, is_first_chosen, is_first_due, is_first_reported, is_new_round, is_time, most_blocks, name_length, noted_sent, planned, report_of_group, room_after};
 ghost use Rattle.codec_payload_session_stream.specs.Reports.{block_of};
 ghost use Rattle.codec_payload_session_requests.specs.Requests.{source_for};
 ghost use Rattle.codec_payload_session_stream.specs.Streams.{later};
 
 use crate::streams::Streams;
 use codec_payload_base::wire::{Frequency, Ticks};
+use codec_payload_feedback_xr::exchange::{TimeExchange, reference_time};
 use codec_payload_rtcp::packet::ReceiverReport;
 use codec_payload_rtcp::writing::{write_cname, written_packets_are_read};
 use codec_payload_session_formats::formats::{FeedbackSettings, LONGEST_NAME, SessionSettings};
@@ -65,8 +67,9 @@ impl Streams {
         let Some(interval) = feedback.report_interval else {
             return None;
         };
-        if !is_report_due(&self.list, now, *due) {
-            *due = planned(&self.list, now, interval, *due);
+        let is_reporting = self.is_reporting();
+        if !is_report_due(is_reporting, now, *due) {
+            *due = planned(is_reporting, now, interval, *due);
             return None;
         }
         let packet = self.report_all(feedback, tick_rate, now);
@@ -74,7 +77,8 @@ impl Streams {
         Some(packet)
     }
 
-    /// Returns the packet with the blocks of the first streams that are due. If memory runs out, nothing has changed.
+    /// Returns the packet with the blocks of the first streams that are due, and the extended reports. If memory runs out, nothing has
+    /// changed.
     #[inline(never)]
     fn report_all(
         &mut self,
@@ -82,40 +86,38 @@ impl Streams {
         tick_rate: Frequency,
         now: Ticks,
     ) -> Result<Vec<u8>, AllocError>
-        ensures ok { IfOk result (λ packet. IsReport feedback.now (bytes_of (blocks_of (is_new_round (most_blocks feedback.now) self.old.streams) (most_blocks feedback.now) tick_rate now.0 self.old.streams)) packet.items) }
-        ensures after { IfOk result (λ packet. self.new ≡ record self.old { streams = all_reported (is_new_round (most_blocks feedback.now) self.old.streams) (most_blocks feedback.now) self.old.streams }) }
+        ensures ok { IfOk result (λ packet. IsReport feedback.now (bytes_of (blocks_of (is_new_round (most_blocks feedback.now) self.old.streams) (most_blocks feedback.now) tick_rate now.0 self.old.streams)) (extended_part feedback.now (reference_time now.0 tick_rate) self.old.exchange) packet.items) }
+        ensures after { IfOk result (λ packet. self.new ≡ noted_sent (record self.old { streams = all_reported (is_new_round (most_blocks feedback.now) self.old.streams) (most_blocks feedback.now) self.old.streams })) }
         ensures err { IfErr result (λ e. self.new ≡ self.old) }
     {
         let round = next_round(&self.list, most_blocks(feedback));
         let mut blocks = Vec::new(self.alloc);
         append_blocks(&self.list, round, now, tick_rate, &mut blocks)?;
-        let packet = write_report(self.alloc, feedback, &blocks)?;
+        let time = reference_time(now, tick_rate);
+        let packet = write_report(self.alloc, feedback, &blocks, &self.exchange, time)?;
         self.waking.forget();
         start_fractions(&mut self.list, round);
+        self.note_sent();
         Ok(packet)
     }
 }
 
-/// Returns when the next report is due, if a stream is announced.
+/// Returns when the next report is due, if one is to be sent.
 #[tactic(auto, using(crate::proofs::ReportingLemmas::none_planned))]
-pub(crate) fn report_deadline(streams: &[StreamState], due: Option<u64>) -> Option<u64>
-    ensures { result ≡ report_deadline due streams.now }
+pub(crate) fn report_deadline(is_reporting: bool, due: Option<u64>) -> Option<u64>
+    ensures { result ≡ deadline_if is_reporting due }
 {
     let Some(at) = due else {
         return None;
     };
-    if any_announced(streams) {
-        Some(at)
-    } else {
-        None
-    }
+    if is_reporting { Some(at) } else { None }
 }
 
-/// Returns whether a report is due: its time has come, and a stream is announced.
-fn is_report_due(streams: &[StreamState], now: Ticks, due: Option<u64>) -> bool
-    ensures { result ≡ is_report_due now.0 due streams.now }
+/// Returns whether a report is due: its time has come, and one is to be sent.
+fn is_report_due(is_reporting: bool, now: Ticks, due: Option<u64>) -> bool
+    ensures { result ≡ is_due_if is_reporting now.0 due }
 {
-    is_time(now, due) && any_announced(streams)
+    is_time(now, due) && is_reporting
 }
 
 /// Returns whether the time has come.
@@ -128,11 +130,11 @@ fn is_time(now: Ticks, due: Option<u64>) -> bool
     }
 }
 
-/// Returns when the next report is due if none is now: one interval after the first stream is announced.
-fn planned(streams: &[StreamState], now: Ticks, interval: u64, due: Option<u64>) -> Option<u64>
-    ensures { result ≡ planned (any_announced streams.now) interval now.0 due }
+/// Returns when the next report is due if none is now: one interval after there is something to report.
+fn planned(is_reporting: bool, now: Ticks, interval: u64, due: Option<u64>) -> Option<u64>
+    ensures { result ≡ planned is_reporting interval now.0 due }
 {
-    if !any_announced(streams) {
+    if !is_reporting {
         return None;
     }
     match due {
@@ -164,7 +166,7 @@ fn due_after(
 }
 
 /// Returns whether a stream is announced.
-fn any_announced(streams: &[StreamState]) -> bool
+pub(crate) fn any_announced(streams: &[StreamState]) -> bool
     ensures { result ≡ any_announced streams.now }
 {
     for stream in streams {
@@ -257,12 +259,20 @@ fn blocks_within(bytes: usize) -> usize
     31 * (bytes / (8 + MOST_BYTES)) + (bytes % (8 + MOST_BYTES)).saturating_sub(8) / 24
 }
 
-/// Returns how many blocks a report has at most: those that fit beside the name, and at least one.
+/// Returns how many bytes extended reports may have in a report.
+fn extended_length(extended: bool) -> usize
+    ensures { result ≡ extended_length extended }
+{
+    if extended { 44 } else { 0 }
+}
+
+/// Returns how many blocks a report has at most: those that fit beside the name and the extended reports, and at least one.
 fn most_blocks(feedback: &FeedbackSettings) -> usize
     ensures { result ≡ most_blocks feedback.now }
 {
     let name = name_length(LONGEST_NAME.min(feedback.cname.len()));
-    blocks_within(feedback.max_report.saturating_sub(name)).max(1)
+    let room = feedback.max_report.saturating_sub(name);
+    blocks_within(room.saturating_sub(extended_length(feedback.extended))).max(1)
 }
 
 /// Appends the blocks about the first streams that are due.
@@ -323,19 +333,22 @@ fn start_fractions(streams: &mut [StreamState], round: Round)
     }
 }
 
-/// Returns a compound packet of receiver reports with these blocks, and the name.
+/// Returns a compound packet of receiver reports with these blocks, the name, and the extended reports at this NTP time.
 fn write_report(
     alloc: Global,
     feedback: &FeedbackSettings,
     blocks: &[u8],
+    exchange: &TimeExchange,
+    time: u64,
 ) -> Result<Vec<u8>, AllocError>
     requires whole { length blocks.now % 24 ≡ 0 }
     requires few { length blocks.now ≤ 24 * most_blocks feedback.now }
-    ensures { IfOk result (λ packet. IsReport feedback.now blocks.now packet.items) }
+    ensures { IfOk result (λ packet. IsReport feedback.now blocks.now (extended_part feedback.now time exchange.now) packet.items) }
 {
     let mut packet = Vec::new(alloc);
     write_groups(feedback.ssrc, blocks, &mut packet)?;
     write_name(feedback, &mut packet)?;
+    write_extended(feedback, exchange, time, &mut packet)?;
     written_packets_are_read();
     Ok(packet)
 }
@@ -366,6 +379,23 @@ fn write_group(ssrc: u32, blocks: &[u8], out: &mut Vec<u8>) -> Result<(), AllocE
         extension: &[],
     };
     report.write(out)
+}
+
+/// Appends the extended reports at this NTP time, if the session has them.
+fn write_extended(
+    feedback: &FeedbackSettings,
+    exchange: &TimeExchange,
+    time: u64,
+    out: &mut Vec<u8>,
+) -> Result<(), AllocError>
+    ensures length { OnOk result (length out.new.items ≤ length out.old.items + extended_length feedback.now.extended) }
+    ensures packets { OnOk result (AppendsAll (extended_part feedback.now time exchange.now) out.old.items out.new.items) }
+{
+    if feedback.extended {
+        exchange.write(feedback.ssrc, time, out)
+    } else {
+        Ok(())
+    }
 }
 
 /// Appends the description of the session, if it has a name.

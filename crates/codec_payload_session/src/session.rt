@@ -341,7 +341,7 @@ impl Session {
             return Some(Ticks(0));
         }
         let streams = self.streams.due_in(self.settings.idle_timeout);
-        let report = report_deadline(&self.streams.list, self.report_due);
+        let report = report_deadline(self.streams.is_reporting(), self.report_due);
         match earlier(
             earlier(streams, report),
             transport_deadline(&self.transport),

@@ -26,6 +26,7 @@ use crate::compound::take_packets;
 use codec_payload_base::wire::{Frequency, Ticks};
 use codec_payload_buffer::buffer::PoppedUnit;
 use codec_payload_datagrams::parsed::ParsedDatagram;
+use codec_payload_feedback_xr::exchange::TimeExchange;
 use codec_payload_index::ssrcs::Ssrcs;
 use codec_payload_jitter::jitter::WaitLimits;
 use codec_payload_rtcp::compound::{CompoundRule, Packets, read_compound};
@@ -61,6 +62,8 @@ pub(crate) struct Streams {
     pub(crate) last: Option<StreamInfo>,
     /// When they may have their next events.
     pub(crate) waking: Waking,
+    /// What the session knows by extended reports.
+    pub(crate) exchange: TimeExchange,
 }
 
 /// The streams to end.
@@ -78,7 +81,7 @@ impl Model for Streams {
 
     ghost use Rattle.codec_payload_session.specs.Waking.{IsIndexed};
 
-    ghost view = { λ s. record { streams = s.list.items; finished = s.finished; ended = s.ended; last = s.last } };
+    ghost view = { λ s. record { streams = s.list.items; finished = s.finished; ended = s.ended; last = s.last; exchange = s.exchange } };
 
     ghost invariant = { λ s. IsIndexed s.waking s.ssrcs s.list.items };
 }
@@ -96,6 +99,7 @@ impl Streams {
             ended: 0,
             last: None,
             waking: Waking::unknown(alloc),
+            exchange: TimeExchange::new(),
         }
     }
 
@@ -128,6 +132,7 @@ impl Streams {
             Ok(packets) => {
                 let at = now.0.saturating_add(settings.bye_wait);
                 self.take_packets(now, at, packets);
+                self.exchange_by(settings, now, datagram);
                 Arrival::Rtcp
             }
             Err(_) => Arrival::Malformed,
@@ -335,6 +340,7 @@ impl Streams {
         }
         let (ssrc, format) = of;
         let mut stream = StreamState::begin(self.alloc, settings, ssrc, &format)?;
+        stream.tell_round_trip(self.exchange.round_trip);
         let answer = stream.take(now, settings.probation, datagram);
         if is_no_memory(&answer) {
             return Err(AllocError);

@@ -180,3 +180,4 @@ pub record IsLiveFeedback (ssrc : ℕ) (name : List ℕ) (f : FeedbackSettings) 
   pub longest_wait : f.longest_wait ≡ Some 1500
   pub report_interval : f.report_interval ≡ Some 1000
   pub max_report : f.max_report ≡ 1200
+  pub extended : f.extended ≡ true

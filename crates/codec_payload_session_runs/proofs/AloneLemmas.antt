@@ -2,9 +2,10 @@
 use Rattle.std.proofs.Common.{◌≡◌, ◌∙◌, refl, sym, ap, subst, ℕ, ◌+◌, Bool, true, false, List, [], ◌∷◌, ◌++◌, append_assoc, append-nil, Option, arith}
 use Rattle.codec_payload_base.specs.declared.wire.Ticks.{Ticks}
 use Rattle.codec_payload_receiver.specs.Sessions.{Session as Receiver}
+use Rattle.codec_payload_session_formats.specs.declared.formats.Format.{Format}
 use Rattle.codec_payload_session_stream.specs.Units.{Event}
 use Rattle.codec_payload_session_stream.specs.declared.events.Event.TheVariants as events
-use Rattle.codec_payload_session_runs.specs.Lives.{AreInOrder, AreMadeBy, AreOfOne, HasNoPair, IsMadeBy, IsPairFirst, IsPart, Projects, ReceiverCall, RunsAlone, events_in, events_of, finishes, follows, is_finish, is_pair, is_pop, is_shown, many_finishes, many_pops, one_more, pairs, pops, receives, reports, shown, shown_in, shown_of, waits, with_shown}
+use Rattle.codec_payload_session_runs.specs.Lives.{AreInOrder, AreMadeBy, AreOfOne, FollowedWaits, HasNoPair, IsMadeBy, IsPairFirst, IsPart, Projects, ReceiverCall, RunsAlone, events_in, events_of, finishes, follows, is_finish, is_pair, is_pop, is_report, is_shown, many_finishes, many_pops, many_reports, one_more, pairs, pops, receives, reports, shown, shown_in, shown_of, waits, with_shown}
 use Rattle.codec_payload_session_runs.specs.SessionRuns.{Call}
 use Rattle.codec_payload_session_runs.specs.declared.run.SessionStep.TheVariants as steps
 use Rattle.codec_payload_session_runs.specs.declared.run.StepAnswer.TheVariants as answers
@@ -35,53 +36,57 @@ pub finishes_append : (cs ds : List ReceiverCall) → many_finishes (cs ++ ds) �
 finishes_append [] ds = omega arith
 finishes_append (c ∷ cs) ds = ap (λ (n : ℕ). one_more (is_finish c) n) (finishes_append cs ds) ∙ one_more_plus (is_finish c) (many_finishes cs) (many_finishes ds)
 
-pub made_append : (ssrc payload_type : ℕ) (call : Call) (cs ds : List ReceiverCall) → AreMadeBy ssrc payload_type call cs → AreMadeBy ssrc payload_type call ds → AreMadeBy ssrc payload_type call (cs ++ ds)
-made_append ssrc payload_type call [] ds a b = b
-made_append ssrc payload_type call (c ∷ cs) ds a b = (a.0, made_append ssrc payload_type call cs ds a.1 b)
+pub reports_append : (cs ds : List ReceiverCall) → many_reports (cs ++ ds) ≡ many_reports cs + many_reports ds
+reports_append [] ds = omega arith
+reports_append (c ∷ cs) ds = ap (λ (n : ℕ). one_more (is_report c) n) (reports_append cs ds) ∙ one_more_plus (is_report c) (many_reports cs) (many_reports ds)
+
+pub made_append : (ssrc : ℕ) (f : Format) (w : FollowedWaits) (call : Call) (cs ds : List ReceiverCall) → AreMadeBy ssrc f w call cs → AreMadeBy ssrc f w call ds → AreMadeBy ssrc f w call (cs ++ ds)
+made_append ssrc f w call [] ds a b = b
+made_append ssrc f w call (c ∷ cs) ds a b = (a.0, made_append ssrc f w call cs ds a.1 b)
 
 -- the call of a poll
 abbrev pub poll_of : Ticks → Option Event → Call
 poll_of now event = record { step = steps.Poll now; answer = answers.Polled event }
 
 -- a poll makes no pair known
-polled_is : (ssrc payload_type : ℕ) (now : Ticks) (event : Option Event) (c : ReceiverCall) → IsMadeBy ssrc payload_type (poll_of now event) c → is_pair c ≡ false
-polled_is ssrc payload_type now event (receives at bytes answer) made = refl
-polled_is ssrc payload_type now event (pops at answer) made = refl
-polled_is ssrc payload_type now event finishes made = refl
-polled_is ssrc payload_type now event (waits limits) made = refl
-polled_is ssrc payload_type now event (follows wait) made = refl
-polled_is ssrc payload_type now event (pairs retransmission) made = absurd made
-polled_is ssrc payload_type now event reports made = refl
+polled_is : (ssrc : ℕ) (f : Format) (w : FollowedWaits) (now : Ticks) (event : Option Event) (c : ReceiverCall) → IsMadeBy ssrc f w (poll_of now event) c → is_pair c ≡ false
+polled_is ssrc f w now event (receives at bytes answer) made = refl
+polled_is ssrc f w now event (pops at answer) made = refl
+polled_is ssrc f w now event finishes made = refl
+polled_is ssrc f w now event (waits limits) made = refl
+polled_is ssrc f w now event (follows wait) made = refl
+polled_is ssrc f w now event (pairs retransmission) made = absurd made
+polled_is ssrc f w now event reports made = refl
 
-polled_none : (ssrc payload_type : ℕ) (now : Ticks) (event : Option Event) (cs : List ReceiverCall) → AreMadeBy ssrc payload_type (poll_of now event) cs → HasNoPair cs
-polled_none ssrc payload_type now event [] made = tt
-polled_none ssrc payload_type now event (c ∷ cs) made = (polled_is ssrc payload_type now event c made.0, polled_none ssrc payload_type now event cs made.1)
+polled_none : (ssrc : ℕ) (f : Format) (w : FollowedWaits) (now : Ticks) (event : Option Event) (cs : List ReceiverCall) → AreMadeBy ssrc f w (poll_of now event) cs → HasNoPair cs
+polled_none ssrc f w now event [] made = tt
+polled_none ssrc f w now event (c ∷ cs) made = (polled_is ssrc f w now event c made.0, polled_none ssrc f w now event cs made.1)
 
-pub polled_first : (ssrc payload_type : ℕ) (now : Ticks) (event : Option Event) (cs : List ReceiverCall) → AreMadeBy ssrc payload_type (poll_of now event) cs → IsPairFirst cs
-polled_first ssrc payload_type now event [] made = tt
-polled_first ssrc payload_type now event (c ∷ cs) made = polled_none ssrc payload_type now event cs made.1
+pub polled_first : (ssrc : ℕ) (f : Format) (w : FollowedWaits) (now : Ticks) (event : Option Event) (cs : List ReceiverCall) → AreMadeBy ssrc f w (poll_of now event) cs → IsPairFirst cs
+polled_first ssrc f w now event [] made = tt
+polled_first ssrc f w now event (c ∷ cs) made = polled_none ssrc f w now event cs made.1
 
 -- ---- projections
 
 -- one more call of the session
-pub projects_more : (ssrc payload_type : ℕ) (cs : List Call) (c : Call) (own part : List ReceiverCall) → Projects ssrc payload_type cs own → IsPart ssrc payload_type c part
-    → Projects ssrc payload_type (cs ++ c ∷ []) (own ++ part)
-projects_more ssrc payload_type [] c own part got is = (part, [], ap (λ (xs : List ReceiverCall). xs ++ part) got ∙ sym (append-nil part), is, refl)
-projects_more ssrc payload_type (d ∷ cs) c own part got is = (
+pub projects_more : (ssrc : ℕ) (f : Format) (w : FollowedWaits) (cs : List Call) (c : Call) (own part : List ReceiverCall) → Projects ssrc f w cs own → IsPart ssrc f w c part
+    → Projects ssrc f w (cs ++ c ∷ []) (own ++ part)
+projects_more ssrc f w [] c own part got is = (part, [], ap (λ (xs : List ReceiverCall). xs ++ part) got ∙ sym (append-nil part), is, refl)
+projects_more ssrc f w (d ∷ cs) c own part got is = (
   got.0,
   got.1 ++ part,
   ap (λ (xs : List ReceiverCall). xs ++ part) got.2 ∙ append_assoc got.0 got.1 part,
   got.3,
-  projects_more ssrc payload_type cs c got.1 part got.4 is,
+  projects_more ssrc f w cs c got.1 part got.4 is,
 )
 
 -- what the calls of the receiver show is what the answers show
-pub projects_shown : (ssrc payload_type : ℕ) (cs : List Call) (own : List ReceiverCall) → Projects ssrc payload_type cs own → shown own ≡ shown_of ssrc payload_type cs
-projects_shown ssrc payload_type [] own got = ap shown got
-projects_shown ssrc payload_type (c ∷ cs) own got =
+pub projects_shown : (ssrc : ℕ) (f : Format) (w : FollowedWaits) (cs : List Call) (own : List ReceiverCall) → Projects ssrc f w cs own → shown own ≡ shown_of ssrc f.payload_type cs
+projects_shown ssrc f w [] own got = ap shown got
+projects_shown ssrc f w (c ∷ cs) own got =
     ap shown got.2
     ∙ (shown_append got.0 got.1
-    ∙ (ap (λ (xs : List ReceiverCall). xs ++ shown got.1) got.3.shows ∙ ap (λ (xs : List ReceiverCall). shown_in ssrc payload_type c ++ xs) (projects_shown ssrc payload_type cs got.1 got.4)))
+    ∙ (ap (λ (xs : List ReceiverCall). xs ++ shown got.1) got.3.shows ∙ ap (λ (xs : List ReceiverCall). shown_in ssrc f.payload_type c ++ xs) (projects_shown ssrc f w cs got.1 got.4)))
 
 -- ---- events
 

@@ -44,6 +44,8 @@ use Rattle.codec_payload_session_stream.specs.declared.stream.Stage.{Stage}
 use Rattle.codec_payload_session_stream.specs.declared.stream.Stage.TheVariants as stages
 use Rattle.codec_payload_session_stream.specs.declared.stream.StreamState.{StreamState}
 use Rattle.codec_payload_session_runs.proofs.EndingCallLemmas.{apart_paired, both_same, paired_same, reported_same, waited_same}
+use Rattle.codec_payload_session_stream.specs.Trips.{with_round_trip}
+use Rattle.codec_payload_session_runs.proofs.TripLemmas.{exchanged_streams, told_if}
 use Rattle.codec_payload_session_runs.proofs.EndingLemmas.{Same, steps_asked}
 use Rattle.codec_payload_session_runs.proofs.FateLemmas.{AreApart, found_none, of_is, of_same}
 use Rattle.codec_payload_session_runs.proofs.ReachedLemmas.{Reached, by_streams, reached, reached_more, Same as SameOrReported}
@@ -278,7 +280,8 @@ begins : (a b : ℕ) (settings : SessionSettings) (ssrc : ℕ) (f : Format) (now
 begins a b settings ssrc f now datagram p answer q room none got =
     let x : StreamState = got.stream in
     let y : StreamState = got.after in
-    let t : Took settings.probation got.told x y = took now datagram settings.probation x got.told y got.takes in
+    let fresh : StreamState = with_round_trip p.exchange.round_trip x in
+    let t : Took settings.probation got.told fresh y = took now datagram settings.probation fresh got.told y got.takes in
     let left : q ≡ record p { streams = p.streams ++ y ∷ [] } =
     got.left ∙ with_room (nat_lt (length p.streams) settings.max_streams) (position on_probation p.streams) (record p { streams = p.streams ++ y ∷ [] }) room in
     subst (λ (o : Port). Given a b settings.probation p answer o) (sym left)
@@ -354,6 +357,11 @@ kept_chain (s ∷ ss) (t ∷ ts) [] first second = absurd second
 kept_chain (s ∷ ss) (t ∷ ts) (u ∷ us) first second =
     (record { ssrc_is = second.0.ssrc_is ∙ first.0.ssrc_is; format = second.0.format ∙ first.0.format; some = λ one. second.0.some (first.0.some one) }, kept_chain ss ts us first.1 second.1)
 
+-- streams that follow another round trip
+told_kept : (b : Bool) (round_trip : Option ℕ) (ss : List StreamState) → AllKept ss (told_if b round_trip ss)
+told_kept true round_trip ss = all_maps (with_round_trip round_trip) ss (λ s. record { ssrc_is = refl; format = refl; some = λ one. one })
+told_kept false round_trip ss = all_itself ss
+
 all_left_kept : (who : ℕ → Bool) (own : Ending) (at : ℕ) (ss : List StreamState) → AllKept ss (left_where who own at ss)
 all_left_kept who own at ss = all_maps (left_if who own at) ss (λ s. left_kept (who s.ssrc) own at s)
 
@@ -361,10 +369,15 @@ takes_as : (o : Sorted) (a b : ℕ) (settings : SessionSettings) (now : Ticks) (
     → TakesInAs o settings now datagram.items p answer q → Given a b settings.probation p answer q
 takes_as sorted.Rtcp a b settings now datagram p answer q room got =
     let noted_streams : List StreamState = noted_at now datagram.items p.streams in
+    let at : ℕ = min (now.0 + settings.bye_wait) (2 ^ 64 - 1) in
+    let left_streams : List StreamState = left_where (goodbye_at datagram.items) endings.Bye at noted_streams in
+    let tells = exchanged_streams settings.feedback settings.tick_rate now.0 datagram.items (record p { streams = left_streams }) in
     given_none a b settings.probation p answer q (ap (λ (r : Result Arrival AllocError). accepted_as a b r) got.0)
     (subst (λ (o : Port). AllKept p.streams o.streams) (sym got.1)
-    (kept_chain p.streams noted_streams (left_where (goodbye_at datagram.items) endings.Bye (min (now.0 + settings.bye_wait) (2 ^ 64 - 1)) noted_streams)
-    (clocks_kept (compound_at false datagram.items) now p.streams) (all_left_kept (goodbye_at datagram.items) endings.Bye (min (now.0 + settings.bye_wait) (2 ^ 64 - 1)) noted_streams)))
+    (subst (λ (zs : List StreamState). AllKept p.streams zs) (sym tells.2)
+    (kept_chain p.streams left_streams (told_if tells.0 tells.1 left_streams)
+    (kept_chain p.streams noted_streams left_streams (clocks_kept (compound_at false datagram.items) now p.streams) (all_left_kept (goodbye_at datagram.items) endings.Bye at noted_streams))
+    (told_kept tells.0 tells.1 left_streams))))
 takes_as sorted.Malformed a b settings now datagram p answer q room got = given_same a b settings.probation p answer (Ok arrivals.Malformed) q refl got.0 got.1
 takes_as sorted.Unknown a b settings now datagram p answer q room got = given_same a b settings.probation p answer (Ok arrivals.Unknown) q refl got.0 got.1
 takes_as sorted.Unassociated a b settings now datagram p answer q room got = given_same a b settings.probation p answer (Ok arrivals.Unassociated) q refl got.0 got.1
@@ -475,14 +488,17 @@ reported_kept is_new room (s ∷ ss) = (
   reported_kept is_new (room_after (is_chosen is_new room s ss) room) ss,
 )
 
-or_reported : (a b : ℕ) (ss ts : List StreamState) → SameOrReported ss ts → HasWaiting a b ss → HasWaiting a b ts
-or_reported a b ss ts (inl same) has = subst (λ (zs : List StreamState). HasWaiting a b zs) (sym same) has
-or_reported a b ss ts (inr (is_new, room, same)) has = subst (λ (zs : List StreamState). HasWaiting a b zs) (sym same) (has_kept a b ss (all_reported is_new room ss) (reported_kept is_new room ss) has)
+or_reported : (a b : ℕ) (packet : Option (Result (Vec ℕ) AllocError)) (ss ts : List StreamState) → SameOrReported packet ss ts → HasWaiting a b ss → HasWaiting a b ts
+or_reported a b packet ss ts (inl same) has = subst (λ (zs : List StreamState). HasWaiting a b zs) (sym same) has
+or_reported a b packet ss ts (inr (bytes, is_new, room, lost, trip, told, same)) has =
+    let after : List StreamState = all_reported is_new room ss in
+    subst (λ (zs : List StreamState). HasWaiting a b zs) (sym same)
+    (has_kept a b after (told_if lost trip after) (told_kept lost trip after) (has_kept a b ss after (reported_kept is_new room ss) has))
 
 goes_on : (o : Option Event) (a b now : ℕ) (s : Session) (event : Option Event) (t : Session) → GoesOn o now s event t → HasWaiting a b s.port.streams → HasWaiting a b t.port.streams
 goes_on None a b now s event t got has =
     subst (λ (z : Session). HasWaiting a b z.port.streams) (sym got.left)
-    (or_reported a b s.port.streams got.port.streams (by_streams s.settings.feedback s.settings.tick_rate now s.report_due s.port got.packet got.due got.port got.reports) has)
+    (or_reported a b got.packet s.port.streams got.port.streams (by_streams s.settings.feedback s.settings.tick_rate now s.report_due s.port got.packet got.due got.port got.reports) has)
 goes_on (Some e) a b now s event t got has = subst (λ (z : Session). HasWaiting a b z.port.streams) (sym got.1) has
 
 sends_after : (o : Option Event) (a b now : ℕ) (s : Session) (event : Option Event) (t : Session) → SendsAfter o now s event t → HasWaiting a b s.port.streams → HasWaiting a b t.port.streams

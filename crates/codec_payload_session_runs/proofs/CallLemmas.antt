@@ -19,8 +19,9 @@ use Rattle.codec_payload_datagrams.specs.Kinds.{is_among}
 use Rattle.codec_payload_receiver.specs.declared.receiver.ReceiveError.{ReceiveError}
 use Rattle.codec_payload_session.specs.Keyframes.{asked_among, asked_with}
 use Rattle.codec_payload_session_requests.specs.declared.requests.KeyframeAnswer.{KeyframeAnswer}
+use Rattle.codec_payload_session_requests.specs.declared.requests.WaitRange.{WaitRange}
 use Rattle.codec_payload_session_stream.specs.Arrivals.{Arrives, arrival_of}
-use Rattle.codec_payload_session.specs.Arrivals.{BeginsIf, BeginsOrFeeds, BeginsWith, Feeds, FeedsIf, Port, TakesIn, TakesInAs, TakesMedia, goodbye_at, has_place, has_ssrc, left_if, on_probation, without}
+use Rattle.codec_payload_session.specs.Arrivals.{BeginsIf, BeginsOrFeeds, BeginsWith, Feeds, FeedsIf, Port, TakesIn, TakesInAs, TakesMedia, goodbye_at, has_place, has_ssrc, left_if, left_where, on_probation, without}
 use Rattle.codec_payload_session_stream.specs.Changes.{continued, continues, is_left_behind, left_behind}
 use Rattle.codec_payload_session_stream.specs.Pairs.{paired_if, paired_when}
 use Rattle.codec_payload_session.specs.Ports.{ReportsIf}
@@ -41,10 +42,12 @@ use Rattle.codec_payload_session_stream.specs.declared.events.Event.TheVariants 
 use Rattle.codec_payload_session_stream.specs.declared.stream.Ending.{Ending}
 use Rattle.codec_payload_session_stream.specs.declared.stream.Ending.TheVariants as endings
 use Rattle.codec_payload_session_stream.specs.declared.stream.StreamState.{StreamState}
-use Rattle.codec_payload_session_runs.proofs.AloneLemmas.{finishes_append, made_append, poll_of, polled_first, pops_append, runs_append, shown_append}
+use Rattle.codec_payload_session_runs.proofs.AloneLemmas.{finishes_append, made_append, poll_of, polled_first, pops_append, reports_append, runs_append, shown_append}
 use Rattle.codec_payload_session_runs.proofs.FateLemmas.{AreApart, AreFates, AreKnown, BeginsNow, Evolves, GoAll, IsFate, IsSilent, ShowsNothing, absent_middle, all_fates, all_stay, evolves_all, evolves_map, evolves_same, fates_append, found_none, mapped_all, one_goes, others_go, present, present_all, present_append, same_sym}
-use Rattle.codec_payload_session_runs.proofs.StreamLemmas.{Goes, HasPart, IsKnown, Keeps, Kind, Stepped, call_of, fed_goes, given_arrival, given_is, keeps_left, silent_goes, steps_stepped}
-use Rattle.codec_payload_session_runs.specs.Lives.{AreMadeBy, AreOfOne, IsAbsent, IsMadeAs, ReceiverCall, StartsWithDatagram, events_by, events_in, given_by, is_same, one_call, pairs, receives, released_by, reports, shown, shown_in, waits}
+use Rattle.codec_payload_session_stream.specs.Trips.{with_round_trip}
+use Rattle.codec_payload_session_runs.proofs.TripLemmas.{exchanged_streams, told_if}
+use Rattle.codec_payload_session_runs.proofs.StreamLemmas.{FinishedBy, Goes, HasPart, IsKnown, Keeps, Kind, Stepped, asked_range, call_of, fed_goes, given_arrival, given_is, keeps_left, none_finished, own_waits, silent_goes, trip_ranges, steps_stepped}
+use Rattle.codec_payload_session_runs.specs.Lives.{AreMadeBy, AreOfOne, FollowedWaits, IsAbsent, IsMadeAs, IsPart, IsReportEvent, ReceiverCall, StartsWithDatagram, age_range, events_by, events_in, given_by, is_same, many_reports, one_call, pairs, receives, released_by, reports, shown, shown_in, waits}
 use Rattle.codec_payload_session_runs.specs.SessionRuns.{Call}
 use Rattle.codec_payload_session_runs.specs.declared.run.SessionStep.{SessionStep}
 use Rattle.codec_payload_session_runs.specs.declared.run.SessionStep.TheVariants as calls
@@ -136,6 +139,22 @@ added_evolves given c false (Some i) p y silent go known begins place =
       silent = λ ssrc payload_type absent. silent ssrc payload_type;
     }
 
+-- a new stream follows the round trip of the session
+told_goes : (c : Call) (round_trip : Option ℕ) (x y : StreamState) → Goes c (with_round_trip round_trip x) y → Goes c x y
+told_goes c round_trip x y goes = record {
+  has = record {
+    ssrc_is = goes.has.ssrc_is;
+    format = goes.has.format;
+    ranges = goes.has.ranges ∙ trip_ranges round_trip x;
+    part = goes.has.part;
+    alone = goes.has.alone;
+    is_part = subst (λ (w : FollowedWaits). IsPart x.ssrc x.format w c goes.has.part) (trip_ranges round_trip x) goes.has.is_part;
+    finishes_it = goes.has.finishes_it;
+  };
+  tells = goes.tells;
+  known = goes.known;
+}
+
 begins_evolve : (settings : SessionSettings) (ssrc : ℕ) (f : Format) (now : Ticks) (micros : Option ℕ) (datagram : Vec ℕ) (p : Port) (answer : Result Arrival AllocError) (q : Port)
     → position (is_of ssrc f.payload_type) p.streams ≡ None → AreKnown p.streams → BeginsWith settings ssrc f now datagram.items p answer q
     → Evolves settings (call_of now micros datagram answer) p.streams q.streams
@@ -148,7 +167,8 @@ begins_evolve settings ssrc f now micros datagram p answer q none known got =
     got.answers ∙ ap₂ (λ (s : ℕ) (g : Format). Ok (arrival_of s g.payload_type got.told)) (sym got.begins.ssrc_is) (sym got.begins.format) in
     let arrives : Arrives (is_no_memory got.told) (arrival_of x.ssrc x.format.payload_type got.told) answer =
     subst (λ (b : Bool). Arrives b (arrival_of x.ssrc x.format.payload_type got.told) answer) (sym got.received) names in
-    let goes : Goes c x y = fed_goes now micros datagram settings.probation x got.told y answer got.takes arrives in
+    let fresh : StreamState = with_round_trip p.exchange.round_trip x in
+    let goes : Goes c x y = told_goes c p.exchange.round_trip x y (fed_goes now micros datagram settings.probation fresh got.told y answer got.takes arrives) in
     let ssrc_is : y.ssrc ≡ ssrc = goes.has.ssrc_is ∙ got.begins.ssrc_is in
     let format : y.format ≡ f = goes.has.format ∙ got.begins.format in
     let begins : BeginsNow settings c p.streams y = record {
@@ -199,7 +219,7 @@ media_evolves settings ssrc f now micros datagram p answer q apart known got =
 -- ---- receive: RTCP
 
 noted_keeps : (now : Ticks) (ps : List Packet) (s : StreamState) → Keeps s (noted now ps s)
-noted_keeps now ps s = record { ssrc_is = refl; format = refl; announced = refl; receiver = refl; stage = λ is. is }
+noted_keeps now ps s = record { ssrc_is = refl; format = refl; announced = refl; receiver = refl; ranges = refl; stage = λ is. is; finished = λ n got. got }
 
 noted_evolves : (given : SessionSettings) (c : Call) (now : Ticks) (o : Result (List Packet) RtcpError) (ss ts : List StreamState) → Evolves given c ss ts → Evolves given c ss (noted_in now o ts)
 noted_evolves given c now (Ok ps) ss ts got = evolves_map given c (noted now ps) ss ts (noted_keeps now ps) got
@@ -208,6 +228,13 @@ noted_evolves given c now (Err e) ss ts got = got
 left_evolves : (given : SessionSettings) (c : Call) (who : ℕ → Bool) (why : Ending) (at : ℕ) (ss ts : List StreamState) → Evolves given c ss ts → Evolves given c ss (map (left_if who why at) ts)
 left_evolves given c who why at ss ts got = evolves_map given c (left_if who why at) ss ts (λ (s : StreamState). keeps_left (who s.ssrc) why at s) got
 
+told_keeps : (round_trip : Option ℕ) (s : StreamState) → Keeps s (with_round_trip round_trip s)
+told_keeps round_trip s = record { ssrc_is = refl; format = refl; announced = refl; receiver = refl; ranges = trip_ranges round_trip s; stage = λ is. is; finished = λ n got. got }
+
+told_evolves : (b : Bool) (given : SessionSettings) (c : Call) (round_trip : Option ℕ) (ss ts : List StreamState) → Evolves given c ss ts → Evolves given c ss (told_if b round_trip ts)
+told_evolves true given c round_trip ss ts got = evolves_map given c (with_round_trip round_trip) ss ts (told_keeps round_trip) got
+told_evolves false given c round_trip ss ts got = got
+
 -- ---- receive
 
 rtcp_evolves : (o : Result (List Packet) RtcpError) (settings : SessionSettings) (now : Ticks) (micros : Option ℕ) (datagram : Vec ℕ) (p : Port) (answer : Result Arrival AllocError) (q : Port)
@@ -215,9 +242,14 @@ rtcp_evolves : (o : Result (List Packet) RtcpError) (settings : SessionSettings)
 rtcp_evolves (Err e) settings now micros datagram p answer q got = stays_evolve settings now micros datagram p answer (Ok arrivals.Malformed) q (λ now bytes s t. refl) got.0 got.1
 rtcp_evolves (Ok packets) settings now micros datagram p answer q got =
     let c : Call = call_of now micros datagram (Ok arrivals.Rtcp) in
+    let at : ℕ = min (now.0 + settings.bye_wait) (2 ^ 64 - 1) in
+    let mid : Port = record p { streams = left_where (goodbye_at datagram.items) endings.Bye at (noted_at now datagram.items p.streams) } in
+    let tells = exchanged_streams settings.feedback settings.tick_rate now.0 datagram.items mid in
     subst₂ (λ (a : Result Arrival AllocError) (o : Port). Evolves settings (call_of now micros datagram a) p.streams o.streams) (sym got.0) (sym got.1)
-    (left_evolves settings c (goodbye_at datagram.items) endings.Bye (min (now.0 + settings.bye_wait) (2 ^ 64 - 1)) p.streams (noted_at now datagram.items p.streams)
-    (noted_evolves settings c now (compound_at false datagram.items) p.streams p.streams (evolves_same settings c p.streams (λ s t. refl) (λ s t. refl))))
+    (subst (λ (zs : List StreamState). Evolves settings c p.streams zs) (sym tells.2)
+    (told_evolves tells.0 settings c tells.1 p.streams mid.streams
+    (left_evolves settings c (goodbye_at datagram.items) endings.Bye at p.streams (noted_at now datagram.items p.streams)
+    (noted_evolves settings c now (compound_at false datagram.items) p.streams p.streams (evolves_same settings c p.streams (λ s t. refl) (λ s t. refl))))))
 
 again_evolves : (o : Option ℕ) (payload_type : ℕ) (settings : SessionSettings) (now : Ticks) (micros : Option ℕ) (datagram : Vec ℕ) (p : Port) (answer : Result Arrival AllocError) (q : Port) → AreApart p.streams
     → TakesInAs (sorted_retransmission o payload_type) settings now datagram.items p answer q → Evolves settings (call_of now micros datagram answer) p.streams q.streams
@@ -284,7 +316,7 @@ IsOther now event x = (events_by x.ssrc x.format.payload_type event ≡ []) × (
 -- a stream that was asked and has no event
 quiet_goes : (now : Ticks) (event : Option Event) (kept : List StreamState → List StreamState) (x y : StreamState) → IsOther now event x → Stepped now x None kept y → Goes (poll_of now event) x y
 quiet_goes now event kept x y other s = record {
-  has = record { ssrc_is = s.ssrc_is; format = s.format; part = s.part; alone = s.alone; is_part = record { made = s.made x.ssrc x.format.payload_type event; one_pop = s.one_pop; one_end = s.one_end; pair_first = polled_first x.ssrc x.format.payload_type now event s.part (s.made x.ssrc x.format.payload_type event); shows = s.shows ∙ sym other.1 } };
+  has = record { ssrc_is = s.ssrc_is; format = s.format; ranges = s.ranges; part = s.part; alone = s.alone; is_part = record { made = s.made x.ssrc x.format (own_waits x) event; one_pop = s.one_pop; one_end = s.one_end; one_report = omega (arith, s.no_report); pair_first = polled_first x.ssrc x.format (own_waits x) now event s.part (s.made x.ssrc x.format (own_waits x) event); shows = s.shows ∙ sym other.1 }; finishes_it = s.finishes_it };
   tells = by_kind s.kind;
   known = s.known;
 }
@@ -299,46 +331,58 @@ quiet_go now idle event [] (y ∷ ys) other got = absurd got
 quiet_go now idle event (x ∷ xs) [] other got = absurd got
 quiet_go now idle event (x ∷ xs) (y ∷ ys) other got = (quiet_goes now event _ x y (other x) (steps_stepped now idle x _ y got.0), quiet_go now idle event xs ys other got.1)
 
--- a stream is reported at the end of a poll
-reported_goes : (now : Ticks) (event : Option Event) (x y : StreamState) (b is_new : Bool) → Goes (poll_of now event) x y → Goes (poll_of now event) x (reported_if b is_new y)
-reported_goes now event x y false is_new goes = record {
+-- a stream is reported at the end of a poll whose event is the report
+reported_goes : (now : Ticks) (event : Option Event) (x y : StreamState) (b is_new : Bool) → IsReportEvent (answers.Polled event) → (goes : Goes (poll_of now event) x y) → many_reports goes.has.part ≡ 0
+    → Goes (poll_of now event) x (reported_if b is_new y)
+reported_goes now event x y false is_new told goes none = record {
   has = record {
     ssrc_is = goes.has.ssrc_is;
     format = goes.has.format;
+    ranges = goes.has.ranges;
     part = goes.has.part;
     alone = goes.has.alone;
     is_part = goes.has.is_part;
+    finishes_it = goes.has.finishes_it;
   };
   tells = goes.tells;
   known = goes.known;
 }
-reported_goes now event x y true is_new goes = record {
+reported_goes now event x y true is_new told goes none = record {
   has = record {
     ssrc_is = goes.has.ssrc_is;
     format = goes.has.format;
+    ranges = goes.has.ranges;
     part = goes.has.part ++ reports ∷ [];
     alone = runs_append goes.has.part (reports ∷ []) x.receiver y.receiver (reported_by y).receiver goes.has.alone ((reported_by y).receiver, refl, refl);
     is_part = record {
       made = made;
       one_pop = omega (arith, pops_append goes.has.part (reports ∷ []), goes.has.is_part.one_pop);
       one_end = omega (arith, finishes_append goes.has.part (reports ∷ []), goes.has.is_part.one_end);
-      pair_first = polled_first x.ssrc x.format.payload_type now event (goes.has.part ++ reports ∷ []) made;
+      one_report = omega (arith, reports_append goes.has.part (reports ∷ []), none);
+      pair_first = polled_first x.ssrc x.format (own_waits x) now event (goes.has.part ++ reports ∷ []) made;
       shows = shown_append goes.has.part (reports ∷ []) ∙ (append-nil (shown goes.has.part) ∙ goes.has.is_part.shows);
     };
+    finishes_it = λ n was. subst (λ (m : ℕ). FinishedBy y.stage (n + m)) (omega (arith, finishes_append goes.has.part (reports ∷ []))) (goes.has.finishes_it n was);
   };
   tells = goes.tells;
   known = goes.known;
 }
   where
-    made : AreMadeBy x.ssrc x.format.payload_type (poll_of now event) (goes.has.part ++ reports ∷ [])
-    made = made_append x.ssrc x.format.payload_type (poll_of now event) goes.has.part (reports ∷ []) goes.has.is_part.made (tt, tt)
+    made : AreMadeBy x.ssrc x.format (own_waits x) (poll_of now event) (goes.has.part ++ reports ∷ [])
+    made = made_append x.ssrc x.format (own_waits x) (poll_of now event) goes.has.part (reports ∷ []) goes.has.is_part.made (told, tt)
 
-pub reported_go : (now : Ticks) (event : Option Event) (is_new : Bool) (room : ℕ) (xs ys : List StreamState) → GoAll (poll_of now event) xs ys → GoAll (poll_of now event) xs (all_reported is_new room ys)
-reported_go now event is_new room [] [] go = tt
-reported_go now event is_new room [] (y ∷ ys) go = absurd go
-reported_go now event is_new room (x ∷ xs) [] go = absurd go
-reported_go now event is_new room (x ∷ xs) (y ∷ ys) go =
-    (reported_goes now event x y (is_chosen is_new room y ys) is_new go.0, reported_go now event is_new (room_after (is_chosen is_new room y ys) room) xs ys go.1)
+-- streams that were asked and have no event are reported
+reported_go : (now : Ticks) (idle : ℕ) (event : Option Event) (is_new : Bool) (room : ℕ) (xs ys : List StreamState) → IsReportEvent (answers.Polled event) → ((x : StreamState) → IsOther now event x)
+    → AreQuiet now idle xs ys → GoAll (poll_of now event) xs (all_reported is_new room ys)
+unfolding quiet_goes
+reported_go now idle event is_new room [] [] told other got = tt
+reported_go now idle event is_new room [] (y ∷ ys) told other got = absurd got
+reported_go now idle event is_new room (x ∷ xs) [] told other got = absurd got
+reported_go now idle event is_new room (x ∷ xs) (y ∷ ys) told other got =
+    let s = steps_stepped now idle x _ y got.0 in (
+      reported_goes now event x y (is_chosen is_new room y ys) is_new told (quiet_goes now event _ x y (other x) s) s.no_report,
+      reported_go now idle event is_new (room_after (is_chosen is_new room y ys) room) xs ys told other got.1,
+    )
 
 -- the streams in front of the one with an event, and those after it
 front_go : (now : Ticks) (idle : ℕ) (event : Event) (front quiet : List StreamState) (x : StreamState) (rest : List StreamState) → AreApart (front ++ x ∷ rest)
@@ -362,7 +406,7 @@ fate_of : (now : Ticks) (event : Event) (kept : List StreamState → List Stream
 fate_of now event kept x y s = by_kind s.kind
   where
     has : HasPart (poll_of now (Some event)) x y
-    has = record { ssrc_is = s.ssrc_is; format = s.format; part = s.part; alone = s.alone; is_part = record { made = s.made x.ssrc x.format.payload_type (Some event); one_pop = s.one_pop; one_end = s.one_end; pair_first = polled_first x.ssrc x.format.payload_type now (Some event) s.part (s.made x.ssrc x.format.payload_type (Some event)); shows = s.shows } }
+    has = record { ssrc_is = s.ssrc_is; format = s.format; ranges = s.ranges; part = s.part; alone = s.alone; is_part = record { made = s.made x.ssrc x.format (own_waits x) (Some event); one_pop = s.one_pop; one_end = s.one_end; one_report = omega (arith, s.no_report); pair_first = polled_first x.ssrc x.format (own_waits x) now (Some event) s.part (s.made x.ssrc x.format (own_waits x) (Some event)); shows = s.shows }; finishes_it = s.finishes_it }
 
     by_kind : Kind x.announced y.announced x.ssrc x.format.payload_type (Some event) kept y
         → (f : Option StreamState) × IsFate (poll_of now (Some event)) x f × ((rest : List StreamState) → kept rest ≡ present (f ∷ all_stay rest))
@@ -401,10 +445,11 @@ pub quiet_evolves : (given : SessionSettings) (now : Ticks) (idle : ℕ) (event 
     → AreQuiet now idle ss ts → Evolves given (poll_of now event) ss ts
 quiet_evolves given now idle event ss ts other silent got = evolves_all given (poll_of now event) ss ts silent (quiet_go now idle event ss ts other got)
 
-pub reported_evolves : (given : SessionSettings) (now : Ticks) (idle : ℕ) (event : Option Event) (is_new : Bool) (room : ℕ) (ss ts : List StreamState) → ((x : StreamState) → IsOther now event x) → IsSilent (poll_of now event)
-    → AreQuiet now idle ss ts → Evolves given (poll_of now event) ss (all_reported is_new room ts)
-reported_evolves given now idle event is_new room ss ts other silent got =
-    evolves_all given (poll_of now event) ss (all_reported is_new room ts) silent (reported_go now event is_new room ss ts (quiet_go now idle event ss ts other got))
+pub reported_evolves : (given : SessionSettings) (now : Ticks) (idle : ℕ) (event : Option Event) (is_new : Bool) (room : ℕ) (lost : Bool) (trip : Option ℕ) (ss ts : List StreamState) → IsReportEvent (answers.Polled event)
+    → ((x : StreamState) → IsOther now event x) → IsSilent (poll_of now event) → AreQuiet now idle ss ts → Evolves given (poll_of now event) ss (told_if lost trip (all_reported is_new room ts))
+reported_evolves given now idle event is_new room lost trip ss ts told other silent got =
+    told_evolves lost given (poll_of now event) trip ss (all_reported is_new room ts)
+    (evolves_all given (poll_of now event) ss (all_reported is_new room ts) silent (reported_go now idle event is_new room ss ts told other got))
 
 -- ---- the other calls
 
@@ -425,9 +470,11 @@ waiting_goes ssrc payload_type limits true s is = record {
   has = record {
     ssrc_is = refl;
     format = refl;
+    ranges = refl;
     part = waits limits ∷ [];
     alone = ((waiting_when true limits s).receiver, refl, refl);
-    is_part = record { made = ((same_sym s.ssrc s.format.payload_type ssrc payload_type ∙ is, refl), tt); one_pop = omega arith; one_end = omega arith; pair_first = tt; shows = refl };
+    is_part = record { made = ((same_sym s.ssrc s.format.payload_type ssrc payload_type ∙ is, refl), tt); one_pop = omega arith; one_end = omega arith; one_report = omega arith; pair_first = tt; shows = refl };
+    finishes_it = none_finished s.stage s.stage (waits limits ∷ []) refl refl;
   };
   tells = refl;
   known = λ known. known;
@@ -441,26 +488,35 @@ waits_evolve given ssrc payload_type limits ss =
     (mapped_all c (waiting_if ssrc payload_type limits) ss (λ (s : StreamState). waiting_goes ssrc payload_type limits (is_of ssrc payload_type s) s refl))
 
 -- a call that gives the streams of an SSRC their retransmissions by these pairs
-abbrev pub IsAboutPair : SessionStep → ℕ → List SsrcPair → Type 0
-IsAboutPair step ssrc named =
-    (s : StreamState) (given : List ReceiverCall) → (s.ssrc == ssrc) ≡ true → IsMadeAs s.ssrc s.format.payload_type step given (pairs (retransmission_for s.ssrc s.format.retransmission named))
+abbrev pub IsAboutPair : Call → ℕ → List SsrcPair → Type 0
+IsAboutPair c ssrc named =
+    (s : StreamState) (given : List ReceiverCall) → (s.ssrc == ssrc) ≡ true → IsMadeAs s.ssrc s.format (own_waits s) c.step c.answer given (pairs (retransmission_for s.ssrc s.format.retransmission named))
 
-pub paired_goes : (c : Call) (ssrc : ℕ) (named : List SsrcPair) (b : Bool) (s : StreamState) → (s.ssrc == ssrc) ≡ b → IsAboutPair c.step ssrc named → events_in s.ssrc s.format.payload_type c.answer ≡ []
+pub paired_goes : (c : Call) (ssrc : ℕ) (named : List SsrcPair) (b : Bool) (s : StreamState) → (s.ssrc == ssrc) ≡ b → IsAboutPair c ssrc named → events_in s.ssrc s.format.payload_type c.answer ≡ []
     → shown_in s.ssrc s.format.payload_type c ≡ [] → Goes c s (paired_when b named s)
 paired_goes c ssrc named false s is about silent nothing = silent_goes c s nothing silent
 paired_goes c ssrc named true s is about silent nothing = record {
   has = record {
     ssrc_is = refl;
     format = refl;
+    ranges = refl;
     part = pairs (paired_when true named s).receiver.stream.retransmission ∷ [];
     alone = ((paired_when true named s).receiver, refl, refl);
-    is_part = record { made = (about s (shown_in s.ssrc s.format.payload_type c) is, tt); one_pop = omega arith; one_end = omega arith; pair_first = tt; shows = sym nothing };
+    is_part = record {
+      made = (about s (shown_in s.ssrc s.format.payload_type c) is, tt);
+      one_pop = omega arith;
+      one_end = omega arith;
+      one_report = omega arith;
+      pair_first = tt;
+      shows = sym nothing;
+    };
+    finishes_it = none_finished s.stage s.stage (pairs (paired_when true named s).receiver.stream.retransmission ∷ []) refl refl;
   };
   tells = subst (λ (es : List Event). AreOfOne s.announced es s.announced) (sym silent) refl;
   known = λ known. known;
 }
 
-pub pairs_evolve : (given : SessionSettings) (c : Call) (ssrc : ℕ) (named : List SsrcPair) (ss : List StreamState) → IsAboutPair c.step ssrc named → IsSilent c → ShowsNothing c → Evolves given c ss (map (paired_if ssrc named) ss)
+pub pairs_evolve : (given : SessionSettings) (c : Call) (ssrc : ℕ) (named : List SsrcPair) (ss : List StreamState) → IsAboutPair c ssrc named → IsSilent c → ShowsNothing c → Evolves given c ss (map (paired_if ssrc named) ss)
 pairs_evolve given c ssrc named ss about silent nothing =
     evolves_all given c ss (map (paired_if ssrc named) ss) silent (mapped_all c (paired_if ssrc named) ss (λ (s : StreamState). paired_goes c ssrc named (s.ssrc == ssrc) s refl about (silent s.ssrc s.format.payload_type) (nothing s.ssrc s.format.payload_type)))
 
@@ -478,9 +534,11 @@ one_reported now ssrc payload_type block s is = record {
   has = record {
     ssrc_is = refl;
     format = refl;
+    ranges = refl;
     part = reports ∷ [];
     alone = ((reported_by s).receiver, refl, refl);
-    is_part = record { made = (same_sym s.ssrc s.format.payload_type ssrc payload_type ∙ is, tt); one_pop = omega arith; one_end = omega arith; pair_first = tt; shows = refl };
+    is_part = record { made = (same_sym s.ssrc s.format.payload_type ssrc payload_type ∙ is, tt); one_pop = omega arith; one_end = omega arith; one_report = omega arith; pair_first = tt; shows = refl };
+    finishes_it = none_finished s.stage s.stage (reports ∷ []) refl refl;
   };
   tells = refl;
   known = λ known. known;
@@ -512,9 +570,11 @@ asked_goes ssrc asked false s = record {
   has = record {
     ssrc_is = refl;
     format = refl;
+    ranges = ap (λ (range : Option WaitRange). record { by_trip = range; by_age = age_range s.late }) (asked_range s.feedback);
     part = [];
     alone = refl;
-    is_part = record { made = tt; one_pop = omega arith; one_end = omega arith; pair_first = tt; shows = refl };
+    is_part = record { made = tt; one_pop = omega arith; one_end = omega arith; one_report = omega arith; pair_first = tt; shows = refl };
+    finishes_it = none_finished s.stage s.stage [] refl refl;
   };
   tells = refl;
   known = λ known. known;

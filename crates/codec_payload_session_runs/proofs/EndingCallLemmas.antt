@@ -1,5 +1,5 @@
 -- Each call of a session, and why its streams end.
-use Rattle.std.proofs.Common.{◌≡◌, ◌∙◌, ◌⊎◌, inl, inr, refl, sym, ap, ap₂, subst, subst₂, ℕ, zero, suc, ◌+◌, ◌-◌, ◌^◌, ◌==◌, ◌&&◌, not, cond, min, Bool, true, false, List, [], ◌∷◌, ◌++◌, Option, Some, None, is_some, Result, Ok, Err, append_assoc, append-nil, slice_get, slice_set, eqb-true, is_ok}
+use Rattle.std.proofs.Common.{◌≡◌, ◌∙◌, ◌⊎◌, inl, inr, refl, sym, ap, ap₂, subst, subst₂, ℕ, zero, suc, ◌+◌, ◌-◌, ◌^◌, ◌==◌, ◌&&◌, not, cond, min, Bool, true, false, List, [], ◌∷◌, ◌++◌, Option, Some, None, is_some, Result, Ok, Err, append_assoc, append-nil, slice_get, slice_set, eqb-true, is_ok, arith}
 use Rattle.std.specs.Global.{Vec}
 use Rattle.std.specs.List.{position, position_from}
 use Rattle.std.specs.Prelude.{IsErr, is_ok, nat_le}
@@ -20,7 +20,7 @@ use Rattle.codec_payload_session_requests.specs.Late.{limit_by}
 use Rattle.codec_payload_session.specs.Keyframes.{asked_among, asked_with}
 use Rattle.codec_payload_session.specs.Accepting.{Accepts, noted_in, time_for}
 use Rattle.codec_payload_session_stream.specs.Arrivals.{Arrives, arrival_of}
-use Rattle.codec_payload_session.specs.Arrivals.{BeginsIf, BeginsOrFeeds, BeginsWith, Feeds, FeedsIf, Port, TakesInAs, TakesMedia, goodbye_at, has_place, leaving, left_where, without, has_ssrc}
+use Rattle.codec_payload_session.specs.Arrivals.{BeginsIf, BeginsOrFeeds, BeginsWith, Feeds, FeedsIf, Port, TakesInAs, TakesMedia, exchanged_by, goodbye_at, has_place, leaving, left_where, without, has_ssrc}
 use Rattle.codec_payload_session.specs.Associations.{AssociatesBy, pair_at}
 use Rattle.codec_payload_session_stream.specs.Changes.{continued, continues, is_left_behind, is_playing, plays, takes_turns}
 use Rattle.codec_payload_session.specs.Pairs.{Pairs}
@@ -51,13 +51,16 @@ use Rattle.codec_payload_session_stream.specs.declared.stream.Stage.{Stage}
 use Rattle.codec_payload_session_stream.specs.declared.stream.Stage.TheVariants as stages
 use Rattle.codec_payload_session_stream.specs.declared.stream.StreamState.{StreamState}
 use Rattle.codec_payload_session_runs.proofs.AloneLemmas.{poll_of}
+use Rattle.codec_payload_session_formats.specs.declared.formats.FeedbackSettings.{FeedbackSettings}
+use Rattle.codec_payload_session_stream.specs.Trips.{with_round_trip}
+use Rattle.codec_payload_session_runs.proofs.TripLemmas.{exchanged_streams, told_if}
 use Rattle.codec_payload_session_runs.proofs.EndingLemmas.{began_more, AllJustified, AllMoved, Asked, Justified, Moved, Reason, Same, all_left, all_more, all_silent, cause_more, ending_of, itself, justified_append, justified_more, justified_parts, justified_remove, justified_same, moved_same, one_moved, others_moved, same_justified, steps_asked}
 use Rattle.codec_payload_session_runs.proofs.CallLemmas.{at_place}
 use Rattle.codec_payload_session_runs.proofs.FateLemmas.{AreApart, found_none, of_is, number_sym}
-use Rattle.codec_payload_session_runs.proofs.ReachedLemmas.{Reached, by_streams, reached, reached_more, reached_new, runs_split, Same as SameOrReported}
-use Rattle.codec_payload_session_runs.proofs.StreamLemmas.{IsOwn, Kind, call_of, given_is, same_is, steps_stepped}
-use Rattle.codec_payload_session_runs.specs.Endings.{BeganWith, EndsHaveCauses, HasCause, IsCause, last_given, names_other, or_before, time_given, time_named}
-use Rattle.codec_payload_session_runs.specs.Lives.{IsAbsent, StartsWithDatagram, ending_poll, is_same, one_event}
+use Rattle.codec_payload_session_runs.proofs.ReachedLemmas.{AllAloneIn, AloneIn, Reached, by_streams, reached, reached_more, reached_new, runs_split, Same as SameOrReported}
+use Rattle.codec_payload_session_runs.proofs.StreamLemmas.{FinishedBy, IsOwn, Kind, call_of, given_is, same_is, steps_stepped}
+use Rattle.codec_payload_session_runs.specs.Endings.{BeganWith, EachFinishHasCause, EndsHaveCauses, FinishHasCause, FinishesHaveCauses, HasCause, IsCause, last_given, names_other, or_before, time_given, time_named}
+use Rattle.codec_payload_session_runs.specs.Lives.{IsAbsent, StartsWithDatagram, ending_poll, is_same, many_finishes, one_event}
 use Rattle.codec_payload_session_runs.specs.SessionRuns.{AddsPair, Call, Does, Runs}
 use Rattle.codec_payload_session_runs.specs.declared.run.SessionStep.{SessionStep}
 use Rattle.codec_payload_session_runs.specs.declared.run.SessionStep.TheVariants as calls
@@ -214,6 +217,7 @@ module _ (g : SessionSettings) (cs : List Call) (now : Ticks) (micros : Option �
       → BeginsWith settings ssrc f now datagram.items p answer q → After answer q.streams
   begins settings ssrc f p answer q lacks none js got =
       let x : StreamState = got.stream in
+      let told : StreamState = with_round_trip p.exchange.round_trip x in
       let names : answer ≡ Ok (arrival_of x.ssrc x.format.payload_type got.told) =
       got.answers ∙ ap₂ (λ (s : ℕ) (h : Format). Ok (arrival_of s h.payload_type got.told)) (sym got.begins.ssrc_is) (sym got.begins.format) in
       let arrives : Arrives (is_no_memory got.told) (arrival_of x.ssrc x.format.payload_type got.told) answer =
@@ -227,7 +231,7 @@ module _ (g : SessionSettings) (cs : List Call) (now : Ticks) (micros : Option �
       (others_moved g (this answer) ssrc f.payload_type p.streams (found_none ssrc f.payload_type p.streams none)
       (λ z other. moved_same g (this answer) z z (time_other false z.ssrc z.format.payload_type now.0 ssrc f.payload_type got.told answer other got.answers) (itself z))) in
       let new : Justified g (cs ++ this answer ∷ []) got.after =
-      fresh x got.after answer (fed now micros datagram settings.probation x got.told got.after answer got.takes arrives) given got.begins.stage starts absent in
+      fresh told got.after answer (fed now micros datagram settings.probation told got.told got.after answer got.takes arrives) given got.begins.stage starts absent in
       subst (λ (o : Port). After answer o.streams) (sym got.left)
       (without_one (leaving settings.max_streams p.streams) (cs ++ this answer ∷ []) (record p { streams = p.streams ++ got.after ∷ [] })
       (justified_append g (cs ++ this answer ∷ []) p.streams (got.after ∷ []) old (new, tt)))
@@ -337,19 +341,28 @@ clocks_same : (o : Result (List Packet) RtcpError) (g : SessionSettings) (cs : L
 clocks_same (Ok packets) g cs now ss js = same_justified g cs (noted now packets) ss (λ s. record { ssrc_is = refl; format = refl; last = refl; stage = refl; accepted = refl }) js
 clocks_same (Err e) g cs now ss js = js
 
-takes_rtcp : (g : SessionSettings) (cs : List Call) (now : Ticks) (micros : Option ℕ) (datagram : Vec ℕ) (at : ℕ) (p : Port) (answer : Result Arrival AllocError) (q : Port) → AllJustified g cs p.streams → answer ≡ Ok arrivals.Rtcp
-    → q ≡ record p { streams = left_where (goodbye_at datagram.items) endings.Bye at (noted_at now datagram.items p.streams) } → AllJustified g (cs ++ call_of now micros datagram answer ∷ []) q.streams
-takes_rtcp g cs now micros datagram at p answer q js is left =
+-- the streams may follow another round trip
+told_justified : (b : Bool) (round_trip : Option ℕ) (g : SessionSettings) (cs : List Call) (ss : List StreamState) → AllJustified g cs ss → AllJustified g cs (told_if b round_trip ss)
+told_justified true round_trip g cs ss js = same_justified g cs (with_round_trip round_trip) ss (λ s. record { ssrc_is = refl; format = refl; last = refl; stage = refl; accepted = refl }) js
+told_justified false round_trip g cs ss js = js
+
+takes_rtcp : (f : Option FeedbackSettings) (tick_rate : ℕ) (g : SessionSettings) (cs : List Call) (now : Ticks) (micros : Option ℕ) (datagram : Vec ℕ) (at : ℕ) (p : Port) (answer : Result Arrival AllocError) (q : Port) → AllJustified g cs p.streams → answer ≡ Ok arrivals.Rtcp
+    → q ≡ exchanged_by f tick_rate now.0 datagram.items (record p { streams = left_where (goodbye_at datagram.items) endings.Bye at (noted_at now datagram.items p.streams) }) → AllJustified g (cs ++ call_of now micros datagram answer ∷ []) q.streams
+takes_rtcp f tick_rate g cs now micros datagram at p answer q js is left =
     let c : Call = call_of now micros datagram answer in
+    let mid : Port = record p { streams = left_where (goodbye_at datagram.items) endings.Bye at (noted_at now datagram.items p.streams) } in
+    let tells = exchanged_streams f tick_rate now.0 datagram.items mid in
     let same : AllJustified g (cs ++ c ∷ []) p.streams = stays g cs c p p (answered now micros datagram answer arrivals.Rtcp (λ s t. refl) is) js refl in
     subst (λ (o : Port). AllJustified g (cs ++ c ∷ []) o.streams) (sym left)
+    (subst (λ (zs : List StreamState). AllJustified g (cs ++ c ∷ []) zs) (sym tells.2)
+    (told_justified tells.0 tells.1 g (cs ++ c ∷ []) mid.streams
     (all_left (λ (s : StreamState). goodbye_at datagram.items s.ssrc) endings.Bye at g cs c (noted_at now datagram.items p.streams)
     (λ s named front. (now, micros, datagram, refl, named))
-    (clocks_same (compound_at false datagram.items) g (cs ++ c ∷ []) now p.streams same))
+    (clocks_same (compound_at false datagram.items) g (cs ++ c ∷ []) now p.streams same))))
 
 takes_as : (o : Sorted) (g : SessionSettings) (cs : List Call) (now : Ticks) (micros : Option ℕ) (datagram : Vec ℕ) (reached_so : Session) (run : Runs cs (new_session g) reached_so) (settings : SessionSettings) (p : Port) (answer : Result Arrival AllocError) (q : Port) → ((a b : ℕ) → IsAbsent a b p.streams → IsAbsent a b reached_so.port.streams) → AreApart p.streams
     → AllJustified g cs p.streams → TakesInAs o settings now datagram.items p answer q → AllJustified g (cs ++ call_of now micros datagram answer ∷ []) q.streams
-takes_as sorted.Rtcp g cs now micros datagram reached_so run settings p answer q lacks apart js got = takes_rtcp g cs now micros datagram (min (now.0 + settings.bye_wait) (2 ^ 64 - 1)) p answer q js got.0 got.1
+takes_as sorted.Rtcp g cs now micros datagram reached_so run settings p answer q lacks apart js got = takes_rtcp settings.feedback settings.tick_rate g cs now micros datagram (min (now.0 + settings.bye_wait) (2 ^ 64 - 1)) p answer q js got.0 got.1
 takes_as sorted.Malformed g cs now micros datagram reached_so run settings p answer q lacks apart js got =
     stays g cs (call_of now micros datagram answer) p q (answered now micros datagram answer arrivals.Malformed (λ s t. refl) got.0) js got.1
 takes_as sorted.Unknown g cs now micros datagram reached_so run settings p answer q lacks apart js got =
@@ -473,14 +486,15 @@ all_reported_justified g cs is_new room (s ∷ ss) js = (
   all_reported_justified g cs is_new (room_after (is_chosen is_new room s ss) room) ss js.1,
 )
 
-or_reported : (g : SessionSettings) (cs : List Call) (ss ts : List StreamState) → SameOrReported ss ts → AllJustified g cs ss → AllJustified g cs ts
-or_reported g cs ss ts (inl same) js = subst (λ (zs : List StreamState). AllJustified g cs zs) (sym same) js
-or_reported g cs ss ts (inr (is_new, room, same)) js = subst (λ (zs : List StreamState). AllJustified g cs zs) (sym same) (all_reported_justified g cs is_new room ss js)
+or_reported : (g : SessionSettings) (cs : List Call) (packet : Option (Result (Vec ℕ) AllocError)) (ss ts : List StreamState) → SameOrReported packet ss ts → AllJustified g cs ss → AllJustified g cs ts
+or_reported g cs packet ss ts (inl same) js = subst (λ (zs : List StreamState). AllJustified g cs zs) (sym same) js
+or_reported g cs packet ss ts (inr (bytes, is_new, room, lost, trip, told, same)) js =
+    subst (λ (zs : List StreamState). AllJustified g cs zs) (sym same) (told_justified lost trip g cs (all_reported is_new room ss) (all_reported_justified g cs is_new room ss js))
 
 goes_on : (o : Option Event) (g : SessionSettings) (cs : List Call) (now : ℕ) (s : Session) (event : Option Event) (t : Session) → AllJustified g cs s.port.streams → GoesOn o now s event t → AllJustified g cs t.port.streams
 goes_on None g cs now s event t js got =
     subst (λ (z : Session). AllJustified g cs z.port.streams) (sym got.left)
-    (or_reported g cs s.port.streams got.port.streams (by_streams s.settings.feedback s.settings.tick_rate now s.report_due s.port got.packet got.due got.port got.reports) js)
+    (or_reported g cs got.packet s.port.streams got.port.streams (by_streams s.settings.feedback s.settings.tick_rate now s.report_due s.port got.packet got.due got.port got.reports) js)
 goes_on (Some e) g cs now s event t js got = subst (λ (z : Session). AllJustified g cs z.port.streams) (sym got.1) js
 
 sends_after : (o : Option Event) (g : SessionSettings) (cs : List Call) (now : ℕ) (s : Session) (event : Option Event) (t : Session) → AllJustified g cs s.port.streams → SendsAfter o now s event t → AllJustified g cs t.port.streams
@@ -679,3 +693,28 @@ pub ends_have_causes : EndsHaveCauses
 ends_have_causes settings before after now ssrc payload_type why s run =
     let parts = runs_split before (ending_poll now ssrc payload_type why ∷ after) (new_session settings) s run in
     ends_by settings before now ssrc payload_type why parts.0 parts.2.0 parts.1 parts.2.1
+
+-- a receiver that was finished belongs to a drained stream, whose end has a cause
+finish_cause : (settings : SessionSettings) (cs : List Call) (x : StreamState) (stage : Stage) → x.stage ≡ stage → AloneIn settings cs x → Justified settings cs x → FinishHasCause settings cs x
+finish_cause settings cs x stages.Probation at in_x j =
+    let none : many_finishes in_x.alone.own ≡ 0 = subst (λ (stage : Stage). FinishedBy stage (many_finishes in_x.alone.own)) at in_x.finished in
+    record { alone = in_x.alone; once = omega (arith, none); caused = inl none }
+finish_cause settings cs x stages.Playing at in_x j =
+    let none : many_finishes in_x.alone.own ≡ 0 = subst (λ (stage : Stage). FinishedBy stage (many_finishes in_x.alone.own)) at in_x.finished in
+    record { alone = in_x.alone; once = omega (arith, none); caused = inl none }
+finish_cause settings cs x (stages.Leaving why until) at in_x j =
+    let none : many_finishes in_x.alone.own ≡ 0 = subst (λ (stage : Stage). FinishedBy stage (many_finishes in_x.alone.own)) at in_x.finished in
+    record { alone = in_x.alone; once = omega (arith, none); caused = inl none }
+finish_cause settings cs x (stages.Draining why) at in_x j = record {
+  alone = in_x.alone;
+  once = subst (λ (stage : Stage). FinishedBy stage (many_finishes in_x.alone.own)) at in_x.finished;
+  caused = inr (why, j.since, j.began, j.cause why (ap (λ (stage : Stage). ending_of stage) at));
+}
+
+finish_causes : (settings : SessionSettings) (cs : List Call) (ss : List StreamState) → AllAloneIn settings cs ss → AllJustified settings cs ss → EachFinishHasCause settings cs ss
+finish_causes settings cs [] all js = tt
+finish_causes settings cs (s ∷ ss) all js = (finish_cause settings cs s s.stage refl all.0 js.0, finish_causes settings cs ss all.1 js.1)
+
+pub finishes_have_causes : FinishesHaveCauses
+finishes_have_causes settings calls s run =
+    finish_causes settings calls s.port.streams (reached settings calls s run).ones (justified_later settings calls [] (new_session settings) s (reached_new settings) tt run)

@@ -9,3 +9,4 @@ pub mod FateLemmas
 pub mod ReachedLemmas
 pub mod RunLemmas
 pub mod StreamLemmas
+mod TripLemmas

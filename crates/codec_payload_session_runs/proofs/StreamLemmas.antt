@@ -1,11 +1,15 @@
 -- One call of a session, and one stream.
-use Rattle.std.proofs.Common.{◌≡◌, ◌≤◌, ◌∙◌, ◌⊎◌, inl, inr, refl, sym, ap, subst, subst₂, ℕ, ◌==◌, ◌&&◌, not, Bool, true, false, List, [], ◌∷◌, ◌++◌, Option, Some, None, Result, Ok, Err, arith, is_ok}
+use Rattle.std.proofs.Common.{◌≡◌, ◌≤◌, ◌∙◌, ◌⊎◌, inl, inr, refl, sym, ap, ap₂, subst, subst₂, ℕ, ◌+◌, max, min, nat_le, ◌==◌, ◌&&◌, not, if◌then◌else◌, Bool, true, false, List, [], ◌∷◌, ◌++◌, Option, Some, None, Result, Ok, Err, arith, is_ok}
 use Rattle.std.specs.Global.{Vec}
 use Rattle.std.specs.declared.alloc.AllocError.{AllocError}
 use Rattle.std.proofs.lemmas.Bool.Decides.{nat_tests}
 use Rattle.codec_payload_base.specs.declared.wire.Ticks.{Ticks}
 use Rattle.codec_payload_metadata.specs.Release.{Release}
-use Rattle.codec_payload_feedback_wait.specs.Waits.{Wait}
+use Rattle.codec_payload_feedback_wait.specs.Ages.{are_enough, greatest_of}
+use Rattle.codec_payload_feedback_wait.specs.Waits.{Wait, after_missing, is_new, limit_of, with_a_quarter}
+use Rattle.codec_payload_feedback_wait.specs.declared.adaptive_wait.AdaptiveWaitSettings.{AdaptiveWaitSettings}
+use Rattle.codec_payload_feedback_requests.specs.NackSchedule.{sure_answer_time}
+use Rattle.codec_payload_jitter.specs.Missing.{missing_numbers}
 use Rattle.codec_payload_jitter.specs.declared.outcome.Outcome.{Outcome}
 use Rattle.codec_payload_receiver.specs.Sessions.{Session as Receiver}
 use Rattle.codec_payload_receiver.specs.declared.pops.Popped.{Popped}
@@ -14,11 +18,13 @@ use Rattle.codec_payload_receiver.specs.declared.receiver.ReceiveError.{ReceiveE
 use Rattle.codec_payload_rtp.specs.RtpReading.{rtp_at}
 use Rattle.codec_payload_session_stream.specs.Arrivals.{Arrives, arrival_of}
 use Rattle.codec_payload_session_formats.specs.Formats.{retransmission_for}
-use Rattle.codec_payload_session_requests.specs.Late.{limit_by}
+use Rattle.codec_payload_session_requests.specs.Late.{arrived_after, late_after, limit_by, missing_after, number_at as late_number}
 use Rattle.codec_payload_session_stream.specs.Pairs.{paired, paired_when}
 use Rattle.codec_payload_session_formats.specs.Names.{names_after}
-use Rattle.codec_payload_session_requests.specs.Requests.{Asking, answered_if, heard_by, number_at, wait_by}
-use Rattle.codec_payload_session_stream.specs.Streams.{Drains, Follows, Plays, RequestsBy, RestsBy, Steps, StepsBy, Takes, accepted_after, end_of, heard_unless, is_accepted, is_keyframe, is_no_memory, is_probation, late_followed, late_noted, left_when, payload_size, received, stage_after, stage_left, step_of, step_with, waiting_for}
+use Rattle.codec_payload_session_requests.specs.Requests.{Asking, Asks, answered_if, asked_by, asked_when, heard_by, is_heard, number_at, reported_by, wait_by, wait_for}
+use Rattle.codec_payload_session_stream.specs.Trips.{with_round_trip}
+use Rattle.codec_payload_session_requests.specs.declared.requests.WaitRange.{WaitRange}
+use Rattle.codec_payload_session_stream.specs.Streams.{Drains, Follows, Plays, RequestsBy, RestsBy, Steps, StepsBy, Takes, accepted_after, end_by, end_of, heard_unless, is_accepted, is_keyframe, is_no_memory, is_probation, late_followed, late_noted, left_when, payload_size, received, stage_after, stage_left, step_of, step_with, waiting_for}
 use Rattle.codec_payload_session_stream.specs.Turns.{event_of}
 use Rattle.codec_payload_session.specs.Turns.{kept_after}
 use Rattle.codec_payload_session_formats.specs.declared.formats.Format.{Format}
@@ -30,8 +36,8 @@ use Rattle.codec_payload_session_stream.specs.declared.stream.Ending.{Ending}
 use Rattle.codec_payload_session_stream.specs.declared.stream.Stage.{Stage}
 use Rattle.codec_payload_session_stream.specs.declared.stream.Stage.TheVariants as stages
 use Rattle.codec_payload_session_stream.specs.declared.stream.StreamState.{StreamState}
-use Rattle.codec_payload_session_runs.proofs.AloneLemmas.{finishes_append, made_append, poll_of, pops_append, runs_append, shown_append}
-use Rattle.codec_payload_session_runs.specs.Lives.{AreMadeBy, AreOfOne, HasNoPair, HasSsrcOf, IsGiven, IsPart, ReceiverCall, RunsAlone, events_by, events_in, finishes, follows, given_by, is_same, many_finishes, many_pops, one_call, one_event, pairs, pops, receives, released_by, reports, shown, shown_in, waits, with_shown}
+use Rattle.codec_payload_session_runs.proofs.AloneLemmas.{finishes_append, made_append, poll_of, pops_append, reports_append, runs_append, shown_append}
+use Rattle.codec_payload_session_runs.specs.Lives.{AreMadeBy, AreOfOne, FollowedWaits, HasNoPair, IsGiven, IsInAge, IsInRange, IsInTrip, IsPairOf, IsPart, NamesSsrc, ReceiverCall, RunsAlone, age_range, events_by, events_in, finishes, follows, given_by, is_same, many_finishes, many_pops, many_reports, one_call, one_event, pairs, pops, receives, released_by, reports, shown, shown_in, trip_range, waits, waits_of, with_shown}
 use Rattle.codec_payload_session_runs.specs.SessionRuns.{Call}
 use Rattle.codec_payload_session_runs.specs.declared.run.SessionStep.TheVariants as calls
 use Rattle.codec_payload_session_runs.specs.declared.run.StepAnswer.TheVariants as answers
@@ -40,13 +46,40 @@ use Rattle.codec_payload_session_runs.specs.declared.run.StepAnswer.TheVariants 
 abbrev pub IsKnown : StreamState → Type 0
 IsKnown s = s.announced ≡ true → is_probation s.stage ≡ false
 
+-- the ranges in which the waits of a stream follow
+abbrev pub own_waits : StreamState → FollowedWaits
+own_waits s = waits_of s.feedback s.late
+
+-- how often the receiver of a stream in this stage was finished: never, or once if the stream is drained
+abbrev pub FinishedBy : Stage → ℕ → Type 0
+FinishedBy stages.Probation n = n ≡ 0
+FinishedBy stages.Playing n = n ≡ 0
+FinishedBy (stages.Leaving why at) n = n ≡ 0
+FinishedBy (stages.Draining why) n = n ≤ 1
+
+-- with this part it still holds
+abbrev pub Finishes : Stage → Stage → List ReceiverCall → Type 0
+Finishes before after part = (n : ℕ) → FinishedBy before n → FinishedBy after (n + many_finishes part)
+
+finished_more : (stage : Stage) (n m : ℕ) → m ≡ 0 → FinishedBy stage n → FinishedBy stage (n + m)
+finished_more stages.Probation n m none got = omega (arith, none, got)
+finished_more stages.Playing n m none got = omega (arith, none, got)
+finished_more (stages.Leaving why at) n m none got = omega (arith, none, got)
+finished_more (stages.Draining why) n m none got = omega (arith, none, got)
+
+-- a part without an end, and the same stage
+pub none_finished : (before after : Stage) (part : List ReceiverCall) → after ≡ before → many_finishes part ≡ 0 → Finishes before after part
+none_finished before after part same none = λ n got. subst (λ (stage : Stage). FinishedBy stage (n + many_finishes part)) (sym same) (finished_more before n (many_finishes part) none got)
+
 -- the same stream before and after a call, and what the call made of its receiver
 pub record HasPart (c : Call) (x y : StreamState) : Type 0 where
   pub ssrc_is : y.ssrc ≡ x.ssrc
   pub format : y.format ≡ x.format
+  pub ranges : own_waits y ≡ own_waits x
   pub part : List ReceiverCall
   pub alone : RunsAlone part x.receiver y.receiver
-  pub is_part : IsPart x.ssrc x.format.payload_type c part
+  pub is_part : IsPart x.ssrc x.format (own_waits x) c part
+  pub finishes_it : Finishes x.stage y.stage part
 
 -- and the stream stays
 pub record Goes (c : Call) (x y : StreamState) : Type 0 where
@@ -58,7 +91,7 @@ pub record Goes (c : Call) (x y : StreamState) : Type 0 where
 
 pub silent_goes : (c : Call) (x : StreamState) → shown_in x.ssrc x.format.payload_type c ≡ [] → events_in x.ssrc x.format.payload_type c.answer ≡ [] → Goes c x x
 silent_goes c x shows tells = record {
-  has = record { ssrc_is = refl; format = refl; part = []; alone = refl; is_part = record { made = tt; one_pop = omega arith; one_end = omega arith; pair_first = tt; shows = sym shows } };
+  has = record { ssrc_is = refl; format = refl; ranges = refl; part = []; alone = refl; is_part = record { made = tt; one_pop = omega arith; one_end = omega arith; one_report = omega arith; pair_first = tt; shows = sym shows }; finishes_it = none_finished x.stage x.stage [] refl refl };
   tells = subst (λ (es : List Event). AreOfOne x.announced es x.announced) (sym tells) refl;
   known = λ known. known;
 }
@@ -69,16 +102,20 @@ pub record Keeps (x y : StreamState) : Type 0 where
   pub format : y.format ≡ x.format
   pub announced : y.announced ≡ x.announced
   pub receiver : y.receiver ≡ x.receiver
+  pub ranges : own_waits y ≡ own_waits x
   pub stage : is_probation x.stage ≡ false → is_probation y.stage ≡ false
+  pub finished : (n : ℕ) → FinishedBy x.stage n → FinishedBy y.stage n
 
 pub keeps_after : (c : Call) (x y z : StreamState) → Goes c x y → Keeps y z → Goes c x z
 keeps_after c x y z goes keeps = record {
   has = record {
     ssrc_is = keeps.ssrc_is ∙ goes.has.ssrc_is;
     format = keeps.format ∙ goes.has.format;
+    ranges = keeps.ranges ∙ goes.has.ranges;
     part = goes.has.part;
     alone = subst (λ (r : Receiver). RunsAlone goes.has.part x.receiver r) (sym keeps.receiver) goes.has.alone;
     is_part = goes.has.is_part;
+    finishes_it = λ n got. keeps.finished (n + many_finishes goes.has.part) (goes.has.finishes_it n got);
   };
   tells = subst (λ (b : Bool). AreOfOne x.announced (events_in x.ssrc x.format.payload_type c.answer) b) (sym keeps.announced) goes.tells;
   known = λ known announced. keeps.stage (goes.known known (sym keeps.announced ∙ announced));
@@ -90,9 +127,15 @@ stage_left_is why at stages.Playing = refl
 stage_left_is why at (stages.Leaving first before) = refl
 stage_left_is why at (stages.Draining first) = refl
 
+left_finished : (why : Ending) (at : ℕ) (stage : Stage) (n : ℕ) → FinishedBy stage n → FinishedBy (stage_left why at stage) n
+left_finished why at stages.Probation n got = got
+left_finished why at stages.Playing n got = got
+left_finished why at (stages.Leaving first before) n got = got
+left_finished why at (stages.Draining first) n got = got
+
 pub keeps_left : (b : Bool) (why : Ending) (at : ℕ) (s : StreamState) → Keeps s (left_when b why at s)
-keeps_left true why at s = record { ssrc_is = refl; format = refl; announced = refl; receiver = refl; stage = λ is. stage_left_is why at s.stage }
-keeps_left false why at s = record { ssrc_is = refl; format = refl; announced = refl; receiver = refl; stage = λ is. is }
+keeps_left true why at s = record { ssrc_is = refl; format = refl; announced = refl; receiver = refl; ranges = refl; stage = λ is. stage_left_is why at s.stage; finished = left_finished why at s.stage }
+keeps_left false why at s = record { ssrc_is = refl; format = refl; announced = refl; receiver = refl; ranges = refl; stage = λ is. is; finished = λ n got. got }
 
 -- ---- a datagram
 
@@ -103,101 +146,206 @@ same_is ssrc payload_type =
     ap (λ (x : Bool). x && (payload_type == payload_type)) a ∙ b
 
 -- after a datagram that the stream was given, its waits may follow the round trip, or how late missing packets arrive
-abbrev AllFollow : (given : Bool) → List ReceiverCall → Type 0
-AllFollow given [] = Unit {0}
-AllFollow given (receives now bytes answer ∷ cs) = ⊥
-AllFollow given (pops now answer ∷ cs) = ⊥
-AllFollow given (finishes ∷ cs) = ⊥
-AllFollow given (waits limits ∷ cs) = ⊥
-AllFollow given (follows wait ∷ cs) = (given ≡ true) × AllFollow given cs
-AllFollow given (pairs retransmission ∷ cs) = ⊥
-AllFollow given (reports ∷ cs) = ⊥
+abbrev AllFollow : (given : Bool) → FollowedWaits → List ReceiverCall → Type 0
+AllFollow given w [] = Unit {0}
+AllFollow given w (receives now bytes answer ∷ cs) = ⊥
+AllFollow given w (pops now answer ∷ cs) = ⊥
+AllFollow given w (finishes ∷ cs) = ⊥
+AllFollow given w (waits limits ∷ cs) = ⊥
+AllFollow given w (follows wait ∷ cs) = (given ≡ true) × IsInRange w wait × AllFollow given w cs
+AllFollow given w (pairs retransmission ∷ cs) = ⊥
+AllFollow given w (reports ∷ cs) = ⊥
 
 -- what such calls are not
 record IsFollowing (more : List ReceiverCall) : Type 0 where
   no_pop : many_pops more ≡ 0
   no_end : many_finishes more ≡ 0
+  no_report : many_reports more ≡ 0
   no_pair : HasNoPair more
   hidden : shown more ≡ []
 
-following : (given : Bool) (more : List ReceiverCall) → AllFollow given more → IsFollowing more
-following given [] all = record { no_pop = refl; no_end = refl; no_pair = tt; hidden = refl }
-following given (receives now bytes answer ∷ cs) all = absurd all
-following given (pops now answer ∷ cs) all = absurd all
-following given (finishes ∷ cs) all = absurd all
-following given (waits limits ∷ cs) all = absurd all
-following given (follows wait ∷ cs) all =
-    let rest = following given cs all.1 in
-    record { no_pop = rest.no_pop; no_end = rest.no_end; no_pair = (refl, rest.no_pair); hidden = rest.hidden }
-following given (pairs retransmission ∷ cs) all = absurd all
-following given (reports ∷ cs) all = absurd all
+following : (given : Bool) (w : FollowedWaits) (more : List ReceiverCall) → AllFollow given w more → IsFollowing more
+following given w [] all = record { no_pop = refl; no_end = refl; no_report = refl; no_pair = tt; hidden = refl }
+following given w (receives now bytes answer ∷ cs) all = absurd all
+following given w (pops now answer ∷ cs) all = absurd all
+following given w (finishes ∷ cs) all = absurd all
+following given w (waits limits ∷ cs) all = absurd all
+following given w (follows wait ∷ cs) all =
+    let rest = following given w cs all.2 in
+    record { no_pop = rest.no_pop; no_end = rest.no_end; no_report = rest.no_report; no_pair = (refl, rest.no_pair); hidden = rest.hidden }
+following given w (pairs retransmission ∷ cs) all = absurd all
+following given w (reports ∷ cs) all = absurd all
 
-one_follows : (given : Bool) (more : List ReceiverCall) (wait : ℕ) → given ≡ true → AllFollow given more → AllFollow given (more ++ follows wait ∷ [])
-one_follows given [] wait is all = (is, tt)
-one_follows given (receives now bytes answer ∷ cs) wait is all = absurd all
-one_follows given (pops now answer ∷ cs) wait is all = absurd all
-one_follows given (finishes ∷ cs) wait is all = absurd all
-one_follows given (waits limits ∷ cs) wait is all = absurd all
-one_follows given (follows other ∷ cs) wait is all = (all.0, one_follows given cs wait is all.1)
-one_follows given (pairs retransmission ∷ cs) wait is all = absurd all
-one_follows given (reports ∷ cs) wait is all = absurd all
+one_follows : (given : Bool) (w : FollowedWaits) (more : List ReceiverCall) (wait : ℕ) → given ≡ true → IsInRange w wait → AllFollow given w more → AllFollow given w (more ++ follows wait ∷ [])
+one_follows given w [] wait is within all = (is, within, tt)
+one_follows given w (receives now bytes answer ∷ cs) wait is within all = absurd all
+one_follows given w (pops now answer ∷ cs) wait is within all = absurd all
+one_follows given w (finishes ∷ cs) wait is within all = absurd all
+one_follows given w (waits limits ∷ cs) wait is within all = absurd all
+one_follows given w (follows other ∷ cs) wait is within all = (all.0, all.1, one_follows given w cs wait is within all.2)
+one_follows given w (pairs retransmission ∷ cs) wait is within all = absurd all
+one_follows given w (reports ∷ cs) wait is within all = absurd all
 
--- what a datagram makes of a stream, after its receiver received it
-record Heard (given : Bool) (ssrc : ℕ) (f : Format) (announced : Bool) (stage : Stage) (r : Receiver) (y : StreamState) : Type 0 where
+-- ---- the ranges of waits
+
+abbrev IsInRangeIf : FollowedWaits → Option ℕ → Type 0
+IsInRangeIf w None = Unit {0}
+IsInRangeIf w (Some wait) = IsInRange w wait
+
+trip_patient : (b : Bool) (range : WaitRange) (wait : ℕ) → (if b then Some (max range.most range.least) else None) ≡ Some wait → IsInTrip (Some range) wait
+trip_patient true range wait is =
+    let e : max range.most range.least ≡ wait = cc in
+    (omega (arith, e), omega (arith, e))
+trip_patient false range wait is = absurd (cc)
+
+trip_within : (range : Option WaitRange) (answer_time : Option ℕ) (wait : ℕ) → wait_for range answer_time ≡ Some wait → IsInTrip range wait
+trip_within None answer_time wait is = absurd (cc)
+trip_within (Some range) None wait is = trip_patient range.is_patient range wait is
+trip_within (Some range) (Some answer_time) wait is =
+    let e : max (min answer_time range.most) range.least ≡ wait = cc in
+    (omega (arith, e), omega (arith, e))
+
+trip_in : (w : FollowedWaits) (feedback : Option Asking) (o : Option ℕ) → wait_by feedback ≡ o → trip_range feedback ≡ w.by_trip → IsInRangeIf w o
+trip_in w feedback None is range = tt
+trip_in w None (Some wait) is range = absurd (cc)
+trip_in w (Some a) (Some wait) is range = inl (subst (λ (o : Option WaitRange). IsInTrip o wait) range (trip_within a.waits (sure_answer_time a.requests.nack) wait is))
+
+age_floor : (b : Bool) (shortest first age longest : ℕ) → min shortest longest ≤ min (max age (if b then shortest else max shortest first)) longest
+age_floor true shortest first age longest = omega arith
+age_floor false shortest first age longest = omega arith
+
+age_in : (w : FollowedWaits) (late : Option Wait) (o : Option ℕ) → limit_by late ≡ o → age_range late ≡ w.by_age → IsInRangeIf w o
+age_in w late None is range = tt
+age_in w None (Some wait) is range = absurd (cc)
+age_in w (Some own) (Some wait) is range =
+    let e : limit_of own ≡ wait = cc in
+    let least : min own.settings.shortest own.settings.longest ≤ limit_of own =
+    age_floor (are_enough own.ages) own.settings.shortest own.settings.first (with_a_quarter (greatest_of own.ages.places)) own.settings.longest in
+    let most : limit_of own ≤ own.settings.longest = omega arith in
+    inr (subst (λ (o : Option AdaptiveWaitSettings). IsInAge o wait) range (subst (λ (n : ℕ). IsInAge (Some own.settings) n) e (least, most)))
+
+heard_range : (now : ℕ) (number : Option ℕ) (feedback : Option Asking) → trip_range (heard_by now number feedback) ≡ trip_range feedback
+heard_range now number None = refl
+heard_range now None (Some a) = refl
+heard_range now (Some n) (Some a) = refl
+
+answered_range : (keyframe : Bool) (feedback : Option Asking) → trip_range (answered_if keyframe feedback) ≡ trip_range feedback
+answered_range keyframe None = refl
+answered_range keyframe (Some a) = refl
+
+asked_when_range : (pli : Bool) (a : Asking) → (asked_when pli a).waits ≡ a.waits
+asked_when_range true a = refl
+asked_when_range false a = refl
+
+trip_range_told : (round_trip : Option ℕ) (feedback : Option Asking) → trip_range (reported_by round_trip feedback) ≡ trip_range feedback
+trip_range_told round_trip None = refl
+trip_range_told round_trip (Some a) = refl
+
+-- a round trip that reports say changes no range
+pub trip_ranges : (round_trip : Option ℕ) (s : StreamState) → own_waits (with_round_trip round_trip s) ≡ own_waits s
+trip_ranges round_trip s = ap (λ (range : Option WaitRange). record { by_trip = range; by_age = age_range s.late }) (trip_range_told round_trip s.feedback)
+
+pub asked_range : (feedback : Option Asking) → trip_range (asked_by feedback) ≡ trip_range feedback
+asked_range None = refl
+asked_range (Some a) = asked_when_range a.pli a
+
+asks_range : (told : Result (Option (Vec ℕ)) AllocError) (now : ℕ) (heard : Bool) (r : Receiver) (a b : Asking) → Asks now heard r a told b → b.waits ≡ a.waits
+asks_range (Ok packet) now heard r a b got = ap (λ (x : Asking). x.waits) got.after
+asks_range (Err e) now heard r a b (inl same) = ap (λ (x : Asking). x.waits) same
+asks_range (Err e) now heard r a b (inr same) = ap (λ (x : Asking). x.waits) same
+
+missing_bounds : (now : ℕ) (ns : List ℕ) (own : Wait) → (missing_after now ns own).settings ≡ own.settings
+missing_bounds now [] own = refl
+missing_bounds now (n ∷ ns) own = missing_bounds now ns (after_missing now n own) ∙ one_bounds (is_new own.highest n) refl
+  where
+    one_bounds : (b : Bool) → is_new own.highest n ≡ b → (after_missing now n own).settings ≡ own.settings
+    one_bounds true is = rw is refl
+    one_bounds false is = rw is refl
+
+arrived_bounds : (now : ℕ) (number : Option ℕ) (own : Wait) → (arrived_after now number own).settings ≡ own.settings
+arrived_bounds now None own = refl
+arrived_bounds now (Some number) own = refl
+
+late_range : (now : ℕ) (number : Option ℕ) (missing : List ℕ) (late : Option Wait) → age_range (late_after now number missing late) ≡ age_range late
+late_range now number missing None = refl
+late_range now number missing (Some own) =
+    ap (λ (bounds : AdaptiveWaitSettings). Some bounds) (missing_bounds now missing (arrived_after now number own) ∙ arrived_bounds now number own)
+
+-- ---- what a datagram makes of a stream, after its receiver received it
+record Heard (given : Bool) (ssrc : ℕ) (f : Format) (w : FollowedWaits) (announced : Bool) (stage : Stage) (r : Receiver) (y : StreamState) : Type 0 where
   ssrc_is : y.ssrc ≡ ssrc
   format : y.format ≡ f
+  trip_is : trip_range y.feedback ≡ w.by_trip
+  age_is : age_range y.late ≡ w.by_age
   announced_is : y.announced ≡ announced
   stage_is : is_probation stage ≡ false → is_probation y.stage ≡ false
+  finished : (n : ℕ) → FinishedBy stage n → FinishedBy y.stage n
   more : List ReceiverCall
   run : RunsAlone more r y.receiver
-  all : AllFollow given more
+  all : AllFollow given w more
 
-waiting_heard : (given : Bool) (o : Option ℕ) (s : StreamState) → given ≡ true → Heard given s.ssrc s.format s.announced s.stage s.receiver (waiting_for o s)
-waiting_heard given None s is = record { ssrc_is = refl; format = refl; announced_is = refl; stage_is = λ is. is; more = []; run = refl; all = tt }
-waiting_heard given (Some wait) s is = record {
+waiting_heard : (given : Bool) (w : FollowedWaits) (o : Option ℕ) (s : StreamState) → given ≡ true → trip_range s.feedback ≡ w.by_trip → age_range s.late ≡ w.by_age → IsInRangeIf w o
+    → Heard given s.ssrc s.format w s.announced s.stage s.receiver (waiting_for o s)
+waiting_heard given w None s is trip age within =
+    record { ssrc_is = refl; format = refl; trip_is = trip; age_is = age; announced_is = refl; stage_is = λ is. is; finished = λ n got. got; more = []; run = refl; all = tt }
+waiting_heard given w (Some wait) s is trip age within = record {
   ssrc_is = refl;
   format = refl;
+  trip_is = trip;
+  age_is = age;
   announced_is = refl;
   stage_is = λ is. is;
+  finished = λ n got. got;
   more = follows wait ∷ [];
   run = ((waiting_for (Some wait) s).receiver, refl, refl);
-  all = (is, tt);
+  all = (is, within, tt);
 }
 
 received_heard : (given accepted : Bool) (now : Ticks) (datagram : Vec ℕ) (r : Receiver) (s : StreamState) → (accepted ≡ true → given ≡ true)
-    → Heard given s.ssrc s.format s.announced s.stage r (received now.0 datagram.items accepted r s)
+    → Heard given s.ssrc s.format (own_waits s) s.announced s.stage r (received now.0 datagram.items accepted r s)
 received_heard given true now datagram r s is =
-    waiting_heard given (wait_by (heard_by now.0 (number_at s.format datagram.items) s.feedback))
-    (record s { receiver = r; feedback = heard_by now.0 (number_at s.format datagram.items) s.feedback; names = names_after s.name_ids datagram.items s.names }) (is refl)
-received_heard given false now datagram r s is = record { ssrc_is = refl; format = refl; announced_is = refl; stage_is = λ is. is; more = []; run = refl; all = tt }
+    let own : Option Asking = heard_by now.0 (number_at s.format datagram.items) s.feedback in
+    let trip : trip_range own ≡ trip_range s.feedback = heard_range now.0 (number_at s.format datagram.items) s.feedback in
+    waiting_heard given (own_waits s) (wait_by own) (record s { receiver = r; feedback = own; names = names_after s.name_ids datagram.items s.names }) (is refl) trip refl
+    (trip_in (own_waits s) own (wait_by own) refl trip)
+received_heard given false now datagram r s is =
+    record { ssrc_is = refl; format = refl; trip_is = refl; age_is = refl; announced_is = refl; stage_is = λ is. is; finished = λ n got. got; more = []; run = refl; all = tt }
 
 -- the wait may follow how late missing packets arrive
-limit_heard : (given : Bool) (o : Option ℕ) (late : Option Wait) (ssrc : ℕ) (f : Format) (announced : Bool) (stage : Stage) (r : Receiver) (y : StreamState) → given ≡ true → Heard given ssrc f announced stage r y
-    → Heard given ssrc f announced stage r (waiting_for o (record y { late = late }))
-limit_heard given None late ssrc f announced stage r y is got = record {
+limit_heard : (given : Bool) (o : Option ℕ) (late : Option Wait) (ssrc : ℕ) (f : Format) (w : FollowedWaits) (announced : Bool) (stage : Stage) (r : Receiver) (y : StreamState) → given ≡ true
+    → age_range late ≡ w.by_age → IsInRangeIf w o → Heard given ssrc f w announced stage r y → Heard given ssrc f w announced stage r (waiting_for o (record y { late = late }))
+limit_heard given None late ssrc f w announced stage r y is age within got = record {
   ssrc_is = got.ssrc_is;
   format = got.format;
+  trip_is = got.trip_is;
+  age_is = age;
   announced_is = got.announced_is;
   stage_is = got.stage_is;
+  finished = got.finished;
   more = got.more;
   run = got.run;
   all = got.all;
 }
-limit_heard given (Some wait) late ssrc f announced stage r y is got = record {
+limit_heard given (Some wait) late ssrc f w announced stage r y is age within got = record {
   ssrc_is = got.ssrc_is;
   format = got.format;
+  trip_is = got.trip_is;
+  age_is = age;
   announced_is = got.announced_is;
   stage_is = got.stage_is;
+  finished = got.finished;
   more = got.more ++ follows wait ∷ [];
   run = runs_append got.more (follows wait ∷ []) r y.receiver (waiting_for (Some wait) y).receiver got.run ((waiting_for (Some wait) y).receiver, refl, refl);
-  all = one_follows given got.more wait is got.all;
+  all = one_follows given w got.more wait is within got.all;
 }
 
-late_heard : (b given : Bool) (now : Ticks) (datagram : Vec ℕ) (ssrc : ℕ) (f : Format) (announced : Bool) (stage : Stage) (r : Receiver) (y : StreamState) → (b ≡ true → given ≡ true)
-    → Heard given ssrc f announced stage r y → Heard given ssrc f announced stage r (late_followed b now.0 datagram.items y)
-late_heard true given now datagram ssrc f announced stage r y is got =
-    limit_heard given (limit_by (late_noted now.0 datagram.items y).late) (late_noted now.0 datagram.items y).late ssrc f announced stage r y (is refl) got
-late_heard false given now datagram ssrc f announced stage r y is got = got
+late_heard : (b given : Bool) (now : Ticks) (datagram : Vec ℕ) (ssrc : ℕ) (f : Format) (w : FollowedWaits) (announced : Bool) (stage : Stage) (r : Receiver) (y : StreamState) → (b ≡ true → given ≡ true)
+    → Heard given ssrc f w announced stage r y → Heard given ssrc f w announced stage r (late_followed b now.0 datagram.items y)
+late_heard true given now datagram ssrc f w announced stage r y is got =
+    let late : Option Wait = (late_noted now.0 datagram.items y).late in
+    let age : age_range late ≡ w.by_age = late_range now.0 (late_number y.format datagram.items) (missing_numbers y.receiver.packets 64) y.late ∙ got.age_is in
+    limit_heard given (limit_by late) late ssrc f w announced stage r y (is refl) age (age_in w late (limit_by late) refl age) got
+late_heard false given now datagram ssrc f w announced stage r y is got = got
 
 stage_after_is : (probation accepted : ℕ) (stage : Stage) → is_probation stage ≡ false → is_probation (stage_after probation accepted stage) ≡ false
 stage_after_is probation accepted stages.Probation is = absurd (cc)
@@ -205,14 +353,27 @@ stage_after_is probation accepted stages.Playing is = refl
 stage_after_is probation accepted (stages.Leaving why at) is = refl
 stage_after_is probation accepted (stages.Draining why) is = refl
 
-unless_heard : (b given : Bool) (now : Ticks) (probation : ℕ) (accepted : Bool) (size ssrc : ℕ) (f : Format) (announced : Bool) (stage : Stage) (r : Receiver) (s : StreamState)
-    → Heard given ssrc f announced stage r s → Heard given ssrc f announced stage r (heard_unless b now.0 probation accepted size s)
-unless_heard true given now probation accepted size ssrc f announced stage r s got = got
-unless_heard false given now probation accepted size ssrc f announced stage r s got = record {
+playing_finished : (b : Bool) (n : ℕ) → n ≡ 0 → FinishedBy (if b then stages.Playing else stages.Probation) n
+playing_finished true n got = got
+playing_finished false n got = got
+
+after_finished : (probation accepted : ℕ) (stage : Stage) (n : ℕ) → FinishedBy stage n → FinishedBy (stage_after probation accepted stage) n
+after_finished probation accepted stages.Probation n got = playing_finished (nat_le probation accepted) n got
+after_finished probation accepted stages.Playing n got = got
+after_finished probation accepted (stages.Leaving why at) n got = got
+after_finished probation accepted (stages.Draining why) n got = got
+
+unless_heard : (b given : Bool) (now : Ticks) (probation : ℕ) (accepted : Bool) (size ssrc : ℕ) (f : Format) (w : FollowedWaits) (announced : Bool) (stage : Stage) (r : Receiver) (s : StreamState)
+    → Heard given ssrc f w announced stage r s → Heard given ssrc f w announced stage r (heard_unless b now.0 probation accepted size s)
+unless_heard true given now probation accepted size ssrc f w announced stage r s got = got
+unless_heard false given now probation accepted size ssrc f w announced stage r s got = record {
   ssrc_is = got.ssrc_is;
   format = got.format;
+  trip_is = got.trip_is;
+  age_is = got.age_is;
   announced_is = got.announced_is;
   stage_is = λ is. stage_after_is probation (accepted_after accepted s.accepted) s.stage (got.stage_is is);
+  finished = λ n was. after_finished probation (accepted_after accepted s.accepted) s.stage n (got.finished n was);
   more = got.more;
   run = got.run;
   all = got.all;
@@ -223,13 +384,18 @@ accepted_given (Ok outcome) is = refl
 accepted_given (Err e) is = absurd (cc)
 
 takes_heard : (now : Ticks) (datagram : Vec ℕ) (probation : ℕ) (x : StreamState) (told : Result Outcome ReceiveError) (y : StreamState) → (got : Takes now probation datagram.items x told y)
-    → Heard (is_ok told) x.ssrc x.format x.announced x.stage got.0 y
+    → Heard (is_ok told) x.ssrc x.format (own_waits x) x.announced x.stage got.0 y
 takes_heard now datagram probation x told y got =
     let r : StreamState = received now.0 datagram.items (is_accepted told) got.0 x in
-    subst (λ (z : StreamState). Heard (is_ok told) x.ssrc x.format x.announced x.stage got.0 z) (sym got.2)
-    (unless_heard (is_no_memory told) (is_ok told) now probation (is_accepted told) (payload_size (rtp_at datagram.items)) x.ssrc x.format x.announced x.stage got.0 (late_followed (is_ok told) now.0 datagram.items r)
-    (late_heard (is_ok told) (is_ok told) now datagram x.ssrc x.format x.announced x.stage got.0 r (λ is. is)
+    subst (λ (z : StreamState). Heard (is_ok told) x.ssrc x.format (own_waits x) x.announced x.stage got.0 z) (sym got.2)
+    (unless_heard (is_no_memory told) (is_ok told) now probation (is_accepted told) (payload_size (rtp_at datagram.items)) x.ssrc x.format (own_waits x) x.announced x.stage got.0
+    (late_followed (is_ok told) now.0 datagram.items r)
+    (late_heard (is_ok told) (is_ok told) now datagram x.ssrc x.format (own_waits x) x.announced x.stage got.0 r (λ is. is)
     (received_heard (is_ok told) (is_accepted told) now datagram got.0 x (accepted_given told))))
+
+-- the ranges stay
+heard_waits : (w : FollowedWaits) (y : StreamState) → trip_range y.feedback ≡ w.by_trip → age_range y.late ≡ w.by_age → own_waits y ≡ w
+heard_waits w y trip age = ap₂ (λ (t : Option WaitRange) (a : Option AdaptiveWaitSettings). record { by_trip = t; by_age = a }) trip age
 
 abbrev pub call_of : Ticks → Option ℕ → Vec ℕ → Result Arrival AllocError → Call
 call_of now micros datagram answer = record { step = calls.Receive now micros datagram; answer = answers.Received answer }
@@ -258,43 +424,47 @@ given_there : (b : Bool) (c : ReceiverCall) (given : List ReceiverCall) → b �
 given_there true c given is same = absurd (cc)
 given_there false c given is same = subst IsGiven same tt
 
-more_made : (told_given : Bool) (ssrc payload_type : ℕ) (now : Ticks) (micros : Option ℕ) (datagram : Vec ℕ) (answer : Result Arrival AllocError) (more : List ReceiverCall)
-    → (told_given ≡ true → IsGiven (shown_in ssrc payload_type (call_of now micros datagram answer))) → AllFollow told_given more → AreMadeBy ssrc payload_type (call_of now micros datagram answer) more
-more_made told_given ssrc payload_type now micros datagram answer [] given all = tt
-more_made told_given ssrc payload_type now micros datagram answer (receives at bytes own ∷ cs) given all = absurd all
-more_made told_given ssrc payload_type now micros datagram answer (pops at own ∷ cs) given all = absurd all
-more_made told_given ssrc payload_type now micros datagram answer (finishes ∷ cs) given all = absurd all
-more_made told_given ssrc payload_type now micros datagram answer (waits limits ∷ cs) given all = absurd all
-more_made told_given ssrc payload_type now micros datagram answer (follows wait ∷ cs) given all = (given all.0, more_made told_given ssrc payload_type now micros datagram answer cs given all.1)
-more_made told_given ssrc payload_type now micros datagram answer (pairs retransmission ∷ cs) given all = absurd all
-more_made told_given ssrc payload_type now micros datagram answer (reports ∷ cs) given all = absurd all
+more_made : (told_given : Bool) (ssrc : ℕ) (f : Format) (w : FollowedWaits) (now : Ticks) (micros : Option ℕ) (datagram : Vec ℕ) (answer : Result Arrival AllocError) (more : List ReceiverCall)
+    → (told_given ≡ true → IsGiven (shown_in ssrc f.payload_type (call_of now micros datagram answer))) → AllFollow told_given w more → AreMadeBy ssrc f w (call_of now micros datagram answer) more
+more_made told_given ssrc f w now micros datagram answer [] given all = tt
+more_made told_given ssrc f w now micros datagram answer (receives at bytes own ∷ cs) given all = absurd all
+more_made told_given ssrc f w now micros datagram answer (pops at own ∷ cs) given all = absurd all
+more_made told_given ssrc f w now micros datagram answer (finishes ∷ cs) given all = absurd all
+more_made told_given ssrc f w now micros datagram answer (waits limits ∷ cs) given all = absurd all
+more_made told_given ssrc f w now micros datagram answer (follows wait ∷ cs) given all =
+    ((given all.0, all.1), more_made told_given ssrc f w now micros datagram answer cs given all.2)
+more_made told_given ssrc f w now micros datagram answer (pairs retransmission ∷ cs) given all = absurd all
+more_made told_given ssrc f w now micros datagram answer (reports ∷ cs) given all = absurd all
 
-heard_made : (now : Ticks) (micros : Option ℕ) (datagram : Vec ℕ) (ssrc payload_type : ℕ) (told : Result Outcome ReceiveError) (answer : Result Arrival AllocError) (more : List ReceiverCall)
-    → AllFollow (is_ok told) more → Arrives (is_no_memory told) (arrival_of ssrc payload_type told) answer → AreMadeBy ssrc payload_type (call_of now micros datagram answer) more
-heard_made now micros datagram ssrc payload_type told answer more all arrives =
-    more_made (is_ok told) ssrc payload_type now micros datagram answer more
-    (λ is. given_there (is_no_memory told) (receives now datagram.items told) (given_by ssrc payload_type now datagram.items answer) (given_memory told is)
-    (given_is (is_no_memory told) now datagram.items ssrc payload_type told answer arrives)) all
+heard_made : (now : Ticks) (micros : Option ℕ) (datagram : Vec ℕ) (ssrc : ℕ) (f : Format) (w : FollowedWaits) (told : Result Outcome ReceiveError) (answer : Result Arrival AllocError) (more : List ReceiverCall)
+    → AllFollow (is_ok told) w more → Arrives (is_no_memory told) (arrival_of ssrc f.payload_type told) answer → AreMadeBy ssrc f w (call_of now micros datagram answer) more
+heard_made now micros datagram ssrc f w told answer more all arrives =
+    more_made (is_ok told) ssrc f w now micros datagram answer more
+    (λ is. given_there (is_no_memory told) (receives now datagram.items told) (given_by ssrc f.payload_type now datagram.items answer) (given_memory told is)
+    (given_is (is_no_memory told) now datagram.items ssrc f.payload_type told answer arrives)) all
 
 pub fed_goes : (now : Ticks) (micros : Option ℕ) (datagram : Vec ℕ) (probation : ℕ) (x : StreamState) (told : Result Outcome ReceiveError) (y : StreamState) (answer : Result Arrival AllocError)
     → Takes now probation datagram.items x told y → Arrives (is_no_memory told) (arrival_of x.ssrc x.format.payload_type told) answer → Goes (call_of now micros datagram answer) x y
 fed_goes now micros datagram probation x told y answer got arrives =
-    let h : Heard (is_ok told) x.ssrc x.format x.announced x.stage got.0 y = takes_heard now datagram probation x told y got in
-    let f : IsFollowing h.more = following (is_ok told) h.more h.all in
+    let h : Heard (is_ok told) x.ssrc x.format (own_waits x) x.announced x.stage got.0 y = takes_heard now datagram probation x told y got in
+    let f : IsFollowing h.more = following (is_ok told) (own_waits x) h.more h.all in
     record {
       has = record {
         ssrc_is = h.ssrc_is;
         format = h.format;
+        ranges = heard_waits (own_waits x) y h.trip_is h.age_is;
         part = receives now datagram.items told ∷ h.more;
         alone = (got.0, got.1, h.run);
         is_part = record {
-          made = ((refl, refl), heard_made now micros datagram x.ssrc x.format.payload_type told answer h.more h.all arrives);
+          made = ((refl, refl), heard_made now micros datagram x.ssrc x.format (own_waits x) told answer h.more h.all arrives);
           one_pop = omega (arith, f.no_pop);
           one_end = omega (arith, f.no_end);
+          one_report = omega (arith, f.no_report);
           pair_first = f.no_pair;
           shows = ap (λ (cs : List ReceiverCall). with_shown (not (is_no_memory told)) (receives now datagram.items told) cs) f.hidden
               ∙ given_is (is_no_memory told) now datagram.items x.ssrc x.format.payload_type told answer arrives;
         };
+        finishes_it = λ n was. finished_more y.stage n (many_finishes h.more) f.no_end (h.finished n was);
       };
       tells = h.announced_is;
       known = λ known is. h.stage_is (known (sym h.announced_is ∙ is));
@@ -302,27 +472,31 @@ fed_goes now micros datagram probation x told y answer got arrives =
 
 -- the same for a stream that first gets the SSRC of its retransmissions
 pub paired_fed_goes : (now : Ticks) (micros : Option ℕ) (datagram : Vec ℕ) (probation : ℕ) (named : List SsrcPair) (b : Bool) (x : StreamState) (told : Result Outcome ReceiveError) (y : StreamState) (answer : Result Arrival AllocError)
-    → (b ≡ true → HasSsrcOf datagram.items (retransmission_for x.ssrc x.format.retransmission named)) → Takes now probation datagram.items (paired_when b named x) told y
+    → (b ≡ true → NamesSsrc x.ssrc (answers.Received answer) × IsPairOf x.format.retransmission datagram.items (retransmission_for x.ssrc x.format.retransmission named))
+    → Takes now probation datagram.items (paired_when b named x) told y
     → Arrives (is_no_memory told) (arrival_of (paired_when b named x).ssrc (paired_when b named x).format.payload_type told) answer → Goes (call_of now micros datagram answer) x y
 paired_fed_goes now micros datagram probation named false x told y answer names got arrives = fed_goes now micros datagram probation x told y answer got arrives
 paired_fed_goes now micros datagram probation named true x told y answer names got arrives =
     let z : StreamState = paired named x in
-    let h : Heard (is_ok told) x.ssrc x.format x.announced x.stage got.0 y = takes_heard now datagram probation z told y got in
-    let f : IsFollowing h.more = following (is_ok told) h.more h.all in
+    let h : Heard (is_ok told) x.ssrc x.format (own_waits x) x.announced x.stage got.0 y = takes_heard now datagram probation z told y got in
+    let f : IsFollowing h.more = following (is_ok told) (own_waits x) h.more h.all in
     record {
       has = record {
         ssrc_is = h.ssrc_is;
         format = h.format;
+        ranges = heard_waits (own_waits x) y h.trip_is h.age_is;
         part = pairs z.receiver.stream.retransmission ∷ receives now datagram.items told ∷ h.more;
         alone = (z.receiver, refl, (got.0, got.1, h.run));
         is_part = record {
-          made = (names refl, ((refl, refl), heard_made now micros datagram x.ssrc x.format.payload_type told answer h.more h.all arrives));
+          made = (names refl, ((refl, refl), heard_made now micros datagram x.ssrc x.format (own_waits x) told answer h.more h.all arrives));
           one_pop = omega (arith, f.no_pop);
           one_end = omega (arith, f.no_end);
+          one_report = omega (arith, f.no_report);
           pair_first = (refl, f.no_pair);
           shows = ap (λ (cs : List ReceiverCall). with_shown (not (is_no_memory told)) (receives now datagram.items told) cs) f.hidden
               ∙ given_is (is_no_memory told) now datagram.items x.ssrc x.format.payload_type told answer arrives;
         };
+        finishes_it = λ n was. finished_more y.stage n (many_finishes h.more) f.no_end (h.finished n was);
       };
       tells = h.announced_is;
       known = λ known is. h.stage_is (known (sym h.announced_is ∙ is));
@@ -345,33 +519,74 @@ IsOwn now ssrc payload_type event =
 pub record Stepped (now : Ticks) (x : StreamState) (event : Option Event) (kept : List StreamState → List StreamState) (y : StreamState) : Type 0 where
   pub ssrc_is : y.ssrc ≡ x.ssrc
   pub format : y.format ≡ x.format
+  pub ranges : own_waits y ≡ own_waits x
   pub part : List ReceiverCall
   pub alone : RunsAlone part x.receiver y.receiver
-  pub made : (ssrc payload_type : ℕ) (told : Option Event) → AreMadeBy ssrc payload_type (poll_of now told) part
+  pub made : (ssrc : ℕ) (f : Format) (w : FollowedWaits) (told : Option Event) → AreMadeBy ssrc f w (poll_of now told) part
   pub one_pop : many_pops part ≤ 1
   pub one_end : many_finishes part ≤ 1
+  pub no_report : many_reports part ≡ 0
   pub shows : shown part ≡ released_by x.ssrc x.format.payload_type now event
   pub own : IsOwn now x.ssrc x.format.payload_type event
   pub kind : Kind x.announced y.announced x.ssrc x.format.payload_type event kept y
   pub known : IsKnown x → IsKnown y
+  pub finishes_it : Finishes x.stage y.stage part
 
 record Drained (now : Ticks) (x y : StreamState) : Type 0 where
   ssrc_is : y.ssrc ≡ x.ssrc
   format : y.format ≡ x.format
+  ranges : own_waits y ≡ own_waits x
   announced_is : y.announced ≡ x.announced
   stage_is : is_probation x.stage ≡ false → is_probation y.stage ≡ false
   part : List ReceiverCall
   alone : RunsAlone part x.receiver y.receiver
-  made : (ssrc payload_type : ℕ) (told : Option Event) → AreMadeBy ssrc payload_type (poll_of now told) part
+  made : (ssrc : ℕ) (f : Format) (w : FollowedWaits) (told : Option Event) → AreMadeBy ssrc f w (poll_of now told) part
   no_pop : many_pops part ≡ 0
   one_end : many_finishes part ≤ 1
+  no_report : many_reports part ≡ 0
   hidden : shown part ≡ []
+  finishes_it : Finishes x.stage y.stage part
 
-drained : (now : Ticks) (o : Option Ending) (x y : StreamState) → Drains o x y → Drained now x y
-drained now None x y got = subst (λ (z : StreamState). Drained now x z) (sym got)
-    (record { ssrc_is = refl; format = refl; announced_is = refl; stage_is = λ is. is; part = []; alone = refl; made = λ s p told. tt; no_pop = refl; one_end = omega arith; hidden = refl })
-drained now (Some why) x y got = subst (λ (z : StreamState). Drained now x z) (sym got.2)
-    (record { ssrc_is = refl; format = refl; announced_is = refl; stage_is = λ is. refl; part = finishes ∷ []; alone = (got.0, got.1, refl); made = λ s p told. (tt, tt); no_pop = refl; one_end = omega arith; hidden = refl })
+-- a stream that is drained does not end again
+ending_finished : (now idle last : ℕ) (stage : Stage) (why : Ending) (n : ℕ) → end_by now idle last stage ≡ Some why → FinishedBy stage n → n + 1 ≤ 1
+ending_finished now idle last stages.Probation why n is got = absurd (cc)
+ending_finished now idle last stages.Playing why n is got = omega (arith, got)
+ending_finished now idle last (stages.Leaving own at) why n is got = omega (arith, got)
+ending_finished now idle last (stages.Draining own) why n is got = absurd (cc)
+
+drained : (now : Ticks) (idle : ℕ) (o : Option Ending) (x y : StreamState) → end_of now.0 idle x ≡ o → Drains o x y → Drained now x y
+drained now idle None x y is got = subst (λ (z : StreamState). Drained now x z) (sym got)
+    (record {
+      ssrc_is = refl;
+      format = refl;
+      ranges = refl;
+      announced_is = refl;
+      stage_is = λ is. is;
+      part = [];
+      alone = refl;
+      made = λ s f w told. tt;
+      no_pop = refl;
+      one_end = omega arith;
+      no_report = refl;
+      hidden = refl;
+      finishes_it = none_finished x.stage x.stage [] refl refl;
+    })
+drained now idle (Some why) x y is got = subst (λ (z : StreamState). Drained now x z) (sym got.2)
+    (record {
+      ssrc_is = refl;
+      format = refl;
+      ranges = refl;
+      announced_is = refl;
+      stage_is = λ is. refl;
+      part = finishes ∷ [];
+      alone = (got.0, got.1, refl);
+      made = λ s f w told. (tt, tt);
+      no_pop = refl;
+      one_end = omega arith;
+      no_report = refl;
+      hidden = refl;
+      finishes_it = λ n was. ending_finished now.0 idle x.last x.stage why n is was;
+    })
 
 -- what follows a pop of an announced stream
 record Told (now : Ticks) (ssrc payload_type : ℕ) (popping : Option (Result (Popped Release) AllocError)) (event : Option Event) (kept : List StreamState → List StreamState) (y : StreamState) : Type 0 where
@@ -382,6 +597,7 @@ record Told (now : Ticks) (ssrc payload_type : ℕ) (popping : Option (Result (P
 record Followed (now : Ticks) (popping : Option (Result (Popped Release) AllocError)) (m : StreamState) (event : Option Event) (kept : List StreamState → List StreamState) (y : StreamState) : Type 0 where
   ssrc_is : y.ssrc ≡ m.ssrc
   format : y.format ≡ m.format
+  ranges : own_waits y ≡ own_waits m
   announced_is : y.announced ≡ m.announced
   stage_is : y.stage ≡ m.stage
   receiver : y.receiver ≡ m.receiver
@@ -454,7 +670,7 @@ answer_told now (Err e) y =
 
 same_followed : (now : Ticks) (popping : Option (Result (Popped Release) AllocError)) (m : StreamState) (event : Option Event) (kept : List StreamState → List StreamState)
     → Told now m.ssrc m.format.payload_type popping event kept m → Followed now popping m event kept m
-same_followed now popping m event kept tells = record { ssrc_is = refl; format = refl; announced_is = refl; stage_is = refl; receiver = refl; tells = tells }
+same_followed now popping m event kept tells = record { ssrc_is = refl; format = refl; ranges = refl; announced_is = refl; stage_is = refl; receiver = refl; tells = tells }
 
 -- by the packet of the requests, if there is one
 asked_told : (told : Result (Option (Vec ℕ)) AllocError) (now : Ticks) (y : StreamState) → Told now y.ssrc y.format.payload_type None (event_of y (step_of told)) (λ (rest : List StreamState). kept_after (step_of told) y rest) y
@@ -462,15 +678,17 @@ asked_told (Ok None) now y = nothing_told now y
 asked_told (Ok (Some packet)) now y = feedback_told now (Ok packet) y
 asked_told (Err e) now y = feedback_told now (Err e) y
 
-requests_followed : (o : Option Asking) (now : Ticks) (m : StreamState) (step : _) (y : StreamState) → RequestsBy o now.0 m step y → Followed now None m (event_of y step) (λ (rest : List StreamState). kept_after step y rest) y
-requests_followed None now m step y got =
+requests_followed : (o : Option Asking) (now : Ticks) (m : StreamState) (step : _) (y : StreamState) → m.feedback ≡ o → RequestsBy o now.0 m step y → Followed now None m (event_of y step) (λ (rest : List StreamState). kept_after step y rest) y
+requests_followed None now m step y is got =
     subst₂ (λ (st : _) (z : StreamState). Followed now None m (event_of z st) (λ (rest : List StreamState). kept_after st z rest) z) (sym got.0) (sym got.1)
     (same_followed now None m None (stays_with m) (nothing_told now m))
-requests_followed (Some a) now m step y got =
+requests_followed (Some a) now m step y is got =
     subst₂ (λ (st : _) (z : StreamState). Followed now None m (event_of z st) (λ (rest : List StreamState). kept_after st z rest) z) (sym got.answers) (sym got.after)
     (record {
       ssrc_is = refl;
       format = refl;
+      ranges = ap (λ (range : Option WaitRange). record { by_trip = range; by_age = age_range m.late })
+          (asks_range got.told now.0 (is_heard now.0 m.last a) m.receiver a got.asking got.asks ∙ sym (ap trip_range is));
       announced_is = refl;
       stage_is = refl;
       receiver = refl;
@@ -481,7 +699,7 @@ rests_followed : (stage : Stage) (now : Ticks) (m : StreamState) (step : _) (y :
 rests_followed stages.Probation now m step y got =
     subst₂ (λ (st : _) (z : StreamState). Followed now None m (event_of z st) (λ (rest : List StreamState). kept_after st z rest) z) (sym got.0) (sym got.1)
     (same_followed now None m None (stays_with m) (nothing_told now m))
-rests_followed stages.Playing now m step y got = requests_followed m.feedback now m step y got
+rests_followed stages.Playing now m step y got = requests_followed m.feedback now m step y refl got
 rests_followed (stages.Leaving why at) now m step y got =
     subst₂ (λ (st : _) (z : StreamState). Followed now None m (event_of z st) (λ (rest : List StreamState). kept_after st z rest) z) (sym got.0) (sym got.1)
     (same_followed now None m None (stays_with m) (nothing_told now m))
@@ -497,6 +715,7 @@ followed (Some told) now m step y got =
     (record {
       ssrc_is = refl;
       format = refl;
+      ranges = ap (λ (range : Option WaitRange). record { by_trip = range; by_age = age_range m.late }) (answered_range (is_keyframe told m.receiver) m.feedback);
       announced_is = refl;
       stage_is = refl;
       receiver = refl;
@@ -506,12 +725,13 @@ followed (Some told) now m step y got =
 plays_stepped : (now : Ticks) (idle : ℕ) (x : StreamState) (step : _) (y : StreamState) → is_probation x.stage ≡ false → x.announced ≡ true → Plays now idle x step y
     → Stepped now x (event_of y step) (λ (rest : List StreamState). kept_after step y rest) y
 plays_stepped now idle x step y plays announced got =
-    let d : Drained now x got.0 = drained now (end_of now.0 idle x) x got.0 got.1 in
+    let d : Drained now x got.0 = drained now idle (end_of now.0 idle x) x got.0 refl got.1 in
     let f : Followed now got.2.told (record got.0 { receiver = got.2.receiver }) (event_of y step) (λ (rest : List StreamState). kept_after step y rest) y =
     followed got.2.told now (record got.0 { receiver = got.2.receiver }) step y got.2.follows in
     let own : List ReceiverCall = pops now got.2.told ∷ [] in
     let announced_after : y.announced ≡ true = f.announced_is ∙ (d.announced_is ∙ announced) in
     let stage_after : is_probation y.stage ≡ false = ap (λ (s : Stage). is_probation s) f.stage_is ∙ d.stage_is plays in
+    let finishes_part : many_finishes (d.part ++ own) ≡ many_finishes d.part = omega (arith, finishes_append d.part own) in
     let ssrc_is : y.ssrc ≡ x.ssrc = f.ssrc_is ∙ d.ssrc_is in
     let format : y.format ≡ x.format = f.format ∙ d.format in
     let tells : Told now x.ssrc x.format.payload_type got.2.told (event_of y step) (λ (rest : List StreamState). kept_after step y rest) y =
@@ -519,15 +739,18 @@ plays_stepped now idle x step y plays announced got =
     record {
       ssrc_is = ssrc_is;
       format = format;
+      ranges = f.ranges ∙ d.ranges;
       part = d.part ++ own;
       alone = runs_append d.part own x.receiver got.0.receiver y.receiver d.alone (got.2.receiver, (got.2.pops, got.2.refused, got.2.large), f.receiver);
-      made = λ s p told. made_append s p (poll_of now told) d.part own (d.made s p told) (refl, tt);
+      made = λ s g w told. made_append s g w (poll_of now told) d.part own (d.made s g w told) (refl, tt);
       one_pop = omega (arith, pops_append d.part own, d.no_pop);
       one_end = omega (arith, finishes_append d.part own, d.one_end);
+      no_report = omega (arith, reports_append d.part own, d.no_report);
       shows = shown_append d.part own ∙ (ap (λ (cs : List ReceiverCall). cs ++ shown own) d.hidden ∙ tells.shows);
       own = tells.own;
       kind = subst₂ (λ (a b : Bool). Kind a b x.ssrc x.format.payload_type (event_of y step) (λ (rest : List StreamState). kept_after step y rest) y) (sym announced) (sym announced_after) tells.kind;
       known = λ known is. stage_after;
+      finishes_it = λ n was. subst₂ (λ (stage : Stage) (m : ℕ). FinishedBy stage (n + m)) (sym f.stage_is) (sym finishes_part) (d.finishes_it n was);
     }
 
 -- an event with the beginning of a stream
@@ -539,30 +762,36 @@ begun_stepped now x announced stage_is =
     record {
       ssrc_is = refl;
       format = refl;
+      ranges = refl;
       part = [];
       alone = refl;
-      made = λ s p told. tt;
+      made = λ s f w told. tt;
       one_pop = omega arith;
       one_end = omega arith;
+      no_report = refl;
       shows = refl;
       own = λ s p other. (ap (λ (b : Bool). one_event b event) other, refl);
       kind = inl (subst (λ (b : Bool). AreOfOne x.announced (one_event b event) true) (sym same) (announced, refl), λ rest. refl);
       known = λ known is. stage_is;
+      finishes_it = none_finished x.stage x.stage [] refl refl;
     }
 
 still_stepped : (now : Ticks) (x : StreamState) → Stepped now x None (stays_with x) x
 still_stepped now x = record {
   ssrc_is = refl;
   format = refl;
+  ranges = refl;
   part = [];
   alone = refl;
-  made = λ s p told. tt;
+  made = λ s f w told. tt;
   one_pop = omega arith;
   one_end = omega arith;
+  no_report = refl;
   shows = refl;
   own = λ s p other. (refl, refl);
   kind = inl (refl, λ rest. refl);
   known = λ known. known;
+  finishes_it = none_finished x.stage x.stage [] refl refl;
 }
 
 by_stepped : (b announced : Bool) (now : Ticks) (idle : ℕ) (x : StreamState) (step : _) (y : StreamState) → is_probation x.stage ≡ b → x.announced ≡ announced → StepsBy b announced now idle x step y

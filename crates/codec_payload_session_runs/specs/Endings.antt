@@ -13,7 +13,7 @@ use Rattle.codec_payload_session_stream.specs.declared.arrival.Arrival.TheVarian
 use Rattle.codec_payload_session_stream.specs.declared.events.Event.TheVariants as events
 use Rattle.codec_payload_session_stream.specs.declared.stream.Ending.{Ending}
 use Rattle.codec_payload_session_stream.specs.declared.stream.Ending.TheVariants as endings
-use Rattle.codec_payload_session_runs.specs.Lives.{EachIsAlone, IsAbsent, StartsWithDatagram, ending_poll, is_same}
+use Rattle.codec_payload_session_runs.specs.Lives.{EachIsAlone, IsAbsent, IsAlone, StartsWithDatagram, ending_poll, is_same, many_finishes}
 use Rattle.codec_payload_session_stream.specs.declared.stream.StreamState.{StreamState}
 use Rattle.codec_payload_session_runs.specs.SessionRuns.{Call, Does, Runs}
 use Rattle.codec_payload_session_runs.specs.declared.run.SessionStep.{SessionStep}
@@ -126,6 +126,20 @@ EndsHaveCauses =
     → Runs (before ++ ending_poll now ssrc payload_type why ∷ after) (new_session settings) s
     → (since : List Call) × BeganWith settings (before ++ ending_poll now ssrc payload_type why ∷ []) ssrc payload_type since
     × HasCause settings.idle_timeout why ssrc payload_type since
+
+-- the receiver of the stream was finished at most once, and only after a call that let the stream end
+pub record FinishHasCause (settings : SessionSettings) (calls : List Call) (s : StreamState) : Type 0 where
+  pub alone : IsAlone settings calls s.ssrc s.format s.announced s.receiver
+  pub once : many_finishes alone.own ≤ 1
+  pub caused : (many_finishes alone.own ≡ 0) ⊎ ((why : Ending) × (since : List Call) × BeganWith settings calls s.ssrc s.format.payload_type since × HasCause settings.idle_timeout why s.ssrc s.format.payload_type since)
+
+abbrev pub EachFinishHasCause : SessionSettings → List Call → List StreamState → Type 0
+EachFinishHasCause settings calls [] = Unit {0}
+EachFinishHasCause settings calls (s ∷ ss) = FinishHasCause settings calls s × EachFinishHasCause settings calls ss
+
+-- at each moment of a run: no poll finishes the receiver of a stream that did not have to end
+abbrev pub FinishesHaveCauses : Type 0
+FinishesHaveCauses = (settings : SessionSettings) (calls : List Call) (s : Session) → Runs calls (new_session settings) s → EachFinishHasCause settings calls s.port.streams
 
 -- at each moment of a run each stream is a receiver alone. So was a stream in probation until a new SSRC took its place, without an
 -- event

@@ -1,5 +1,5 @@
 -- Each stream of a session is a separate receiver.
-use Rattle.std.specs.Prelude.{◌≡◌, ◌≤◌, ℕ, suc, ◌==◌, ◌&&◌, not, if◌then◌else◌, Bool, true, false, List, [], ◌∷◌, ◌++◌, Option, Some, None, Result, Ok, Err}
+use Rattle.std.specs.Prelude.{◌≡◌, ◌≤◌, ◌⊎◌, ℕ, suc, max, min, ◌==◌, ◌&&◌, not, if◌then◌else◌, Bool, true, false, List, [], ◌∷◌, ◌++◌, Option, Some, None, Result, Ok, Err}
 use Rattle.std.specs.declared.alloc.AllocError.{AllocError}
 use Rattle.codec_payload_base.specs.declared.wire.Ticks.{Ticks}
 use Rattle.codec_payload_metadata.specs.Release.{Release}
@@ -14,6 +14,12 @@ use Rattle.codec_payload_receiver.specs.declared.pops.Popped.{Popped}
 use Rattle.codec_payload_receiver.specs.declared.pops.Popped.TheVariants as popped
 use Rattle.codec_payload_receiver.specs.declared.receiver.ReceiveError.{ReceiveError}
 use Rattle.codec_payload_datagrams.specs.declared.kinds.Retransmission.{Retransmission}
+use Rattle.codec_payload_feedback_wait.specs.Waits.{Wait}
+use Rattle.codec_payload_feedback_wait.specs.declared.adaptive_wait.AdaptiveWaitSettings.{AdaptiveWaitSettings}
+use Rattle.codec_payload_session_formats.specs.Formats.{is_video, limits_for}
+use Rattle.codec_payload_session_requests.specs.Late.{late_for}
+use Rattle.codec_payload_session_requests.specs.Requests.{Asking, feedback_by}
+use Rattle.codec_payload_session_requests.specs.declared.requests.WaitRange.{WaitRange}
 use Rattle.codec_payload_session.specs.Ports.{Session, new_session}
 use Rattle.codec_payload_session_stream.specs.Streams.{Begins, is_no_memory, is_of}
 use Rattle.codec_payload_session_formats.specs.declared.formats.Format.{Format}
@@ -161,44 +167,117 @@ shown (c ∷ cs) = with_shown (is_shown c) c (shown cs)
 
 -- ---- what a call of the session makes of a receiver
 
--- retransmissions with the SSRC of the datagram, or none
-abbrev pub HasSsrcOf : List ℕ → Option Retransmission → Type 0
-HasSsrcOf bytes None = Unit {0}
-HasSsrcOf bytes (Some retransmission) = (packet : Packet) × (rtp_at bytes ≡ Ok packet) × (retransmission.ssrc ≡ packet.header.ssrc)
+-- the datagram is an RTP packet with the SSRC of these retransmissions
+abbrev pub HasSsrcOf : List ℕ → Retransmission → Type 0
+HasSsrcOf bytes retransmission = (packet : Packet) × (rtp_at bytes ≡ Ok packet) × (retransmission.ssrc ≡ packet.header.ssrc)
 
--- retransmissions with that SSRC, or none if the format of the stream has no type for them
-abbrev pub HasSsrc : ℕ → Option Retransmission → Type 0
-HasSsrc ssrc None = Unit {0}
-HasSsrc ssrc (Some retransmission) = retransmission.ssrc ≡ ssrc
+-- the answer to a datagram names a stream of this SSRC, or memory ran out for the datagram
+abbrev pub NamesSsrc : ℕ → StepAnswer → Type 0
+NamesSsrc ssrc (answers.Received (Ok (arrivals.Stream s p outcome))) = s ≡ ssrc
+NamesSsrc ssrc (answers.Received (Ok (arrivals.Faulty s p fault))) = s ≡ ssrc
+NamesSsrc ssrc (answers.Received (Ok arrivals.Rtcp)) = ⊥
+NamesSsrc ssrc (answers.Received (Ok arrivals.Malformed)) = ⊥
+NamesSsrc ssrc (answers.Received (Ok arrivals.Unknown)) = ⊥
+NamesSsrc ssrc (answers.Received (Ok arrivals.Refused)) = ⊥
+NamesSsrc ssrc (answers.Received (Ok arrivals.Unassociated)) = ⊥
+NamesSsrc ssrc (answers.Received (Err e)) = Unit {0}
+NamesSsrc ssrc (answers.Polled event) = ⊥
+NamesSsrc ssrc (answers.Reported block) = ⊥
+NamesSsrc ssrc (answers.PairAdded added) = ⊥
+NamesSsrc ssrc (answers.KeyframeAsked asked) = ⊥
+NamesSsrc ssrc answers.Done = ⊥
+
+-- retransmissions with the SSRC of the datagram and the payload type that the format has for them; none exactly if the format has none
+abbrev pub IsPairOf : Option ℕ → List ℕ → Option Retransmission → Type 0
+IsPairOf again bytes None = again ≡ None
+IsPairOf again bytes (Some own) = HasSsrcOf bytes own × (again ≡ Some own.payload_type)
+
+-- retransmissions with that SSRC and the payload type that the format has for them; none exactly if the format has none
+abbrev pub HasSsrc : ℕ → Option ℕ → Option Retransmission → Type 0
+HasSsrc ssrc again None = again ≡ None
+HasSsrc ssrc again (Some own) = (own.ssrc ≡ ssrc) × (again ≡ Some own.payload_type)
+
+-- the event of a poll is a report
+abbrev pub IsReportEvent : StepAnswer → Type 0
+IsReportEvent (answers.Polled (Some (events.Report (Ok packet)))) = Unit {0}
+IsReportEvent (answers.Polled (Some (events.Report (Err e)))) = ⊥
+IsReportEvent (answers.Polled (Some (events.Begun s p))) = ⊥
+IsReportEvent (answers.Polled (Some (events.Unit s p time decodable keyframe unit))) = ⊥
+IsReportEvent (answers.Polled (Some (events.TooLarge s p unit))) = ⊥
+IsReportEvent (answers.Polled (Some (events.Refused s p fault))) = ⊥
+IsReportEvent (answers.Polled (Some (events.Feedback s p packet))) = ⊥
+IsReportEvent (answers.Polled (Some (events.Telephone s p time marker payload))) = ⊥
+IsReportEvent (answers.Polled (Some (events.TransportFeedback packet))) = ⊥
+IsReportEvent (answers.Polled (Some (events.Ended s p why))) = ⊥
+IsReportEvent (answers.Polled None) = ⊥
+IsReportEvent (answers.Received arrival) = ⊥
+IsReportEvent (answers.Reported block) = ⊥
+IsReportEvent (answers.PairAdded added) = ⊥
+IsReportEvent (answers.KeyframeAsked asked) = ⊥
+IsReportEvent answers.Done = ⊥
+
+-- the ranges in which the `max_wait` of a stream may follow the round trip, and how late missing packets arrive. None: it does not
+pub record FollowedWaits : Type 0 where
+  pub by_trip : Option WaitRange
+  pub by_age : Option AdaptiveWaitSettings
+
+abbrev pub trip_range : Option Asking → Option WaitRange
+trip_range None = None
+trip_range (Some asking) = asking.waits
+
+abbrev pub age_range : Option Wait → Option AdaptiveWaitSettings
+age_range None = None
+age_range (Some wait) = Some wait.settings
+
+abbrev pub waits_of : Option Asking → Option Wait → FollowedWaits
+waits_of feedback late = record { by_trip = trip_range feedback; by_age = age_range late }
+
+-- the ranges of a stream with this SSRC and format, by the settings of the session
+abbrev pub waits_for : SessionSettings → ℕ → Format → FollowedWaits
+waits_for settings ssrc f = waits_of (feedback_by settings.feedback ssrc f (limits_for settings (is_video f.spec.codec)).max_wait) (late_for settings f)
+
+-- from the stream's own limit to the longest wait
+abbrev pub IsInTrip : Option WaitRange → ℕ → Type 0
+IsInTrip None wait = ⊥
+IsInTrip (Some range) wait = (range.least ≤ wait) × (wait ≤ max range.most range.least)
+
+-- from the shortest to the longest limit
+abbrev pub IsInAge : Option AdaptiveWaitSettings → ℕ → Type 0
+IsInAge None wait = ⊥
+IsInAge (Some bounds) wait = (min bounds.shortest bounds.longest ≤ wait) × (wait ≤ bounds.longest)
+
+abbrev pub IsInRange : FollowedWaits → ℕ → Type 0
+IsInRange ranges wait = IsInTrip ranges.by_trip wait ⊎ IsInAge ranges.by_age wait
 
 -- the answer of the call gives the stream a datagram
 abbrev pub IsGiven : List ReceiverCall → Type 0
 IsGiven [] = ⊥
 IsGiven (c ∷ cs) = Unit {0}
 
--- What a call of the session, whose answer shows this of the stream with that SSRC and payload type, makes of the receiver of the
--- stream. A datagram is received at its time. If the stream takes it, `max_wait` may follow the round trip, or how late missing packets arrive. If it is a retransmission
--- whose stream is found, the stream gets its SSRC. A poll pops at its time, and may end the stream first and report it afterwards. A
--- call for the wait limits or a report is passed on to the stream that it names, and a pair to the streams of its SSRC
-abbrev pub IsMadeAs : (ssrc payload_type : ℕ) → SessionStep → List ReceiverCall → ReceiverCall → Type 0
-IsMadeAs ssrc payload_type (steps.Receive now micros datagram) given (receives at bytes answer) = (at ≡ now) × (bytes ≡ datagram.items)
-IsMadeAs ssrc payload_type (steps.Receive now micros datagram) given (follows wait) = IsGiven given
-IsMadeAs ssrc payload_type (steps.Receive now micros datagram) given (pairs own) = HasSsrcOf datagram.items own
-IsMadeAs ssrc payload_type (steps.Poll now) given (pops at answer) = at ≡ now
-IsMadeAs ssrc payload_type (steps.Poll now) given finishes = Unit {0}
-IsMadeAs ssrc payload_type (steps.Poll now) given reports = Unit {0}
-IsMadeAs ssrc payload_type (steps.SetWaitLimits s p limits) given (waits own) = (is_same ssrc payload_type s p ≡ true) × (own ≡ limits)
-IsMadeAs ssrc payload_type (steps.Report now s p) given reports = is_same ssrc payload_type s p ≡ true
-IsMadeAs ssrc payload_type (steps.AddPair s retransmission) given (pairs own) = (s ≡ ssrc) × HasSsrc retransmission own
-IsMadeAs ssrc payload_type (steps.RemovePair s) given (pairs own) = (s ≡ ssrc) × (own ≡ None)
-IsMadeAs ssrc payload_type _ given _ = ⊥
+-- What a call of the session, whose answer shows this of the stream with that SSRC and format, makes of the receiver of the stream. A
+-- datagram is received at its time. If the stream takes it, `max_wait` may follow the round trip, or how late missing packets arrive, within the ranges of the stream. If it
+-- is a retransmission whose stream is found, the answer names that stream, and the streams of its SSRC get the SSRC of the datagram. A poll pops at its time, and may end the
+-- stream first. If its event is a report, the poll may report the stream afterwards. A call for the wait limits or a report is passed on to the
+-- stream that it names, and a pair to the streams of its SSRC
+abbrev pub IsMadeAs : ℕ → Format → FollowedWaits → SessionStep → StepAnswer → List ReceiverCall → ReceiverCall → Type 0
+IsMadeAs ssrc f w (steps.Receive now micros datagram) answer given (receives at bytes told) = (at ≡ now) × (bytes ≡ datagram.items)
+IsMadeAs ssrc f w (steps.Receive now micros datagram) answer given (follows wait) = IsGiven given × IsInRange w wait
+IsMadeAs ssrc f w (steps.Receive now micros datagram) answer given (pairs own) = NamesSsrc ssrc answer × IsPairOf f.retransmission datagram.items own
+IsMadeAs ssrc f w (steps.Poll now) answer given (pops at told) = at ≡ now
+IsMadeAs ssrc f w (steps.Poll now) answer given finishes = Unit {0}
+IsMadeAs ssrc f w (steps.Poll now) answer given reports = IsReportEvent answer
+IsMadeAs ssrc f w (steps.SetWaitLimits s p limits) answer given (waits own) = (is_same ssrc f.payload_type s p ≡ true) × (own ≡ limits)
+IsMadeAs ssrc f w (steps.Report now s p) answer given reports = is_same ssrc f.payload_type s p ≡ true
+IsMadeAs ssrc f w (steps.AddPair s retransmission) answer given (pairs own) = (s ≡ ssrc) × HasSsrc retransmission f.retransmission own
+IsMadeAs ssrc f w (steps.RemovePair s) answer given (pairs own) = (s ≡ ssrc) × (own ≡ None)
+IsMadeAs ssrc f w _ answer given _ = ⊥
 
-abbrev pub IsMadeBy : (ssrc payload_type : ℕ) → Call → ReceiverCall → Type 0
-IsMadeBy ssrc payload_type c call = IsMadeAs ssrc payload_type c.step (shown_in ssrc payload_type c) call
+abbrev pub IsMadeBy : ℕ → Format → FollowedWaits → Call → ReceiverCall → Type 0
+IsMadeBy ssrc f w c call = IsMadeAs ssrc f w c.step c.answer (shown_in ssrc f.payload_type c) call
 
-abbrev pub AreMadeBy : (ssrc payload_type : ℕ) → Call → List ReceiverCall → Type 0
-AreMadeBy ssrc payload_type c [] = Unit {0}
-AreMadeBy ssrc payload_type c (own ∷ rest) = IsMadeBy ssrc payload_type c own × AreMadeBy ssrc payload_type c rest
+abbrev pub AreMadeBy : ℕ → Format → FollowedWaits → Call → List ReceiverCall → Type 0
+AreMadeBy ssrc f w c [] = Unit {0}
+AreMadeBy ssrc f w c (own ∷ rest) = IsMadeBy ssrc f w c own × AreMadeBy ssrc f w c rest
 
 abbrev pub is_pop : ReceiverCall → Bool
 is_pop (receives now bytes answer) = false
@@ -230,6 +309,19 @@ abbrev pub many_finishes : List ReceiverCall → ℕ
 many_finishes [] = 0
 many_finishes (c ∷ cs) = one_more (is_finish c) (many_finishes cs)
 
+abbrev pub is_report : ReceiverCall → Bool
+is_report (receives now bytes answer) = false
+is_report (pops now answer) = false
+is_report finishes = false
+is_report (waits limits) = false
+is_report (follows wait) = false
+is_report (pairs retransmission) = false
+is_report reports = true
+
+abbrev pub many_reports : List ReceiverCall → ℕ
+many_reports [] = 0
+many_reports (c ∷ cs) = one_more (is_report c) (many_reports cs)
+
 abbrev pub is_pair : ReceiverCall → Bool
 is_pair (receives now bytes answer) = false
 is_pair (pops now answer) = false
@@ -248,20 +340,21 @@ abbrev pub IsPairFirst : List ReceiverCall → Type 0
 IsPairFirst [] = Unit {0}
 IsPairFirst (c ∷ cs) = HasNoPair cs
 
--- what one call makes of the receiver of a stream: what its answer shows, at most one pop, at most one end, at most one pair, in front
+-- what one call makes of the receiver of a stream: what its answer shows, at most one pop, at most one end, at most one report, at most one pair, in front
 -- of the rest, and nothing that this call cannot make of this stream
-pub record IsPart (ssrc payload_type : ℕ) (c : Call) (part : List ReceiverCall) : Type 0 where
-  pub made : AreMadeBy ssrc payload_type c part
+pub record IsPart (ssrc : ℕ) (f : Format) (w : FollowedWaits) (c : Call) (part : List ReceiverCall) : Type 0 where
+  pub made : AreMadeBy ssrc f w c part
   pub one_pop : many_pops part ≤ 1
   pub one_end : many_finishes part ≤ 1
+  pub one_report : many_reports part ≤ 1
   pub pair_first : IsPairFirst part
-  pub shows : shown part ≡ shown_in ssrc payload_type c
+  pub shows : shown part ≡ shown_in ssrc f.payload_type c
 
 -- the projection of a run to the receiver of a stream: for each call its part, in order
-abbrev pub Projects : ℕ → ℕ → List Call → List ReceiverCall → Type 0
-Projects ssrc payload_type [] own = own ≡ []
-Projects ssrc payload_type (c ∷ cs) own =
-    (part : List ReceiverCall) × (rest : List ReceiverCall) × (own ≡ part ++ rest) × IsPart ssrc payload_type c part × Projects ssrc payload_type cs rest
+abbrev pub Projects : ℕ → Format → FollowedWaits → List Call → List ReceiverCall → Type 0
+Projects ssrc f w [] own = own ≡ []
+Projects ssrc f w (c ∷ cs) own =
+    (part : List ReceiverCall) × (rest : List ReceiverCall) × (own ≡ part ++ rest) × IsPart ssrc f w c part × Projects ssrc f w cs rest
 
 -- ---- events
 
@@ -346,7 +439,7 @@ pub record IsAlone (settings : SessionSettings) (calls : List Call) (ssrc : ℕ)
   pub begins : Begins reached.settings ssrc f fresh
   pub own : List ReceiverCall
   pub alone : RunsAlone own fresh.receiver r
-  pub projects : Projects ssrc f.payload_type during own
+  pub projects : Projects ssrc f (waits_for settings ssrc f) during own
   pub shows : shown own ≡ shown_of ssrc f.payload_type during
   pub tells : AreOfOne false (events_of ssrc f.payload_type during) announced
 
@@ -376,9 +469,10 @@ pub record EndedAlone (settings : SessionSettings) (before : List Call) (now : T
   pub last : Receiver
   pub part : List ReceiverCall
   pub run : RunsAlone part receiver last
-  pub made : AreMadeBy ssrc payload_type (ending_poll now ssrc payload_type why) part
+  pub made : AreMadeBy ssrc format (waits_for settings ssrc format) (ending_poll now ssrc payload_type why) part
   pub one_pop : many_pops part ≤ 1
   pub one_end : many_finishes part ≤ 1
+  pub one_report : many_reports part ≤ 1
   pub no_unit : shown part ≡ []
 
 -- each stream whose end is an event of the run

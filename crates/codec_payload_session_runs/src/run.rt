@@ -6,9 +6,10 @@ ghost use Rattle.codec_payload_session_formats.specs.Checks.{fault_of};
 ghost use Rattle.codec_payload_session.specs.Ports.{counts_with, new_session, taken_in};
 ghost use Rattle.codec_payload_session_formats.specs.declared.formats.SessionSettings.{SessionSettings as Settings};
 ghost use Rattle.codec_payload_session_runs.specs.Counting.{Counts};
-ghost use Rattle.codec_payload_session_runs.specs.Endings.{EndsHaveCauses, StreamsAreAlone, TwoDatagramsBegin};
+ghost use Rattle.codec_payload_session_runs.specs.Endings.{EndsHaveCauses, FinishesHaveCauses, StreamsAreAlone, TwoDatagramsBegin};
 ghost use Rattle.codec_payload_session_runs.specs.Lives.{EachEndedAlone, EachIsAlone, TellsInOrder};
 ghost use Rattle.codec_payload_session_runs.specs.SessionRuns.{Does, Runs, calls_of, refusal_of};
+ghost use Rattle.codec_payload_session_runs.specs.Tightness.{PairsByFormat, PairsNoOther, ReportsOnce, ReportsWithReport, UnpairsNone, WaitsWithin};
 
 use codec_payload_base::wire::Ticks;
 use codec_payload_jitter::waiting::WaitLimits;
@@ -135,6 +136,22 @@ pub fn run_session(
 /// Each end of a stream has its cause in the run: a BYE, the idle timeout, another format of its SSRC, or a call of the caller.
 pub fn ends_have_causes()
     ensures { EndsHaveCauses }
+{}
+
+/// The receiver of a stream is finished at most once, and only after a call that lets the stream end.
+pub fn finishes_have_causes()
+    ensures { FinishesHaveCauses }
+{}
+
+/// What one call makes of the receiver of a stream is bounded: retransmissions only by a datagram for its SSRC and with the payload type
+/// of its format, one report at most and only with the event of a report, and `max_wait` only within the ranges of the stream.
+pub fn parts_are_tight()
+    ensures pairs { PairsNoOther }
+    ensures unpairs { UnpairsNone }
+    ensures by_format { PairsByFormat }
+    ensures reports { ReportsWithReport }
+    ensures once { ReportsOnce }
+    ensures waits { WaitsWithin }
 {}
 
 /// At each moment of a run each stream is a receiver alone, also one that a new SSRC replaces before it is announced.

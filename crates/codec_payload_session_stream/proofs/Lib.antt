@@ -13,5 +13,6 @@ pub mod SkipLemmas
 pub mod SsrcLemmas
 mod StillLemmas
 pub mod TelephoneLemmas
+mod TripLemmas
 pub mod UnitLemmas
 pub mod WakingLemmas

@@ -8,6 +8,7 @@ pub mod Renegotiation
 pub mod Reports
 pub mod Streams
 pub mod Telephone
+pub mod Trips
 pub mod Turns
 pub mod Units
 pub mod Waking

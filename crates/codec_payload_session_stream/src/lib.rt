@@ -11,4 +11,5 @@ pub mod reports;
 pub mod stream;
 pub mod telephone;
 pub mod times;
+pub mod trips;
 pub mod waking;

@@ -124,7 +124,7 @@ pub struct StreamState {
     /// The names that its accepted packets had.
     pub names: StreamNames,
     /// At earlier times a step has no event, unless the stream is idle. 0: it is not known.
-    quiet_until: u64,
+    pub(crate) quiet_until: u64,
     /// Its `work_deadline`, unless `quiet_until` is 0. 0: there is none.
     work: u64,
 }

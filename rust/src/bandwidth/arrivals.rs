@@ -13,7 +13,7 @@ const SHORTEST: u64 = 50_000;
 
 /// A packet that arrived.
 #[derive(Clone, Copy, Debug, PartialEq, Eq)]
-#[non_exhaustive]
+#[cfg_attr(not(feature = "exhaustive"), non_exhaustive)]
 pub(crate) struct Arrival {
     pub(crate) at: u64,
     pub(crate) size: u32,

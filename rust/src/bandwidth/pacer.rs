@@ -61,7 +61,7 @@ impl PacerSettings {
 
 /// Why a packet was not stored.
 #[derive(Clone, Copy, Debug, PartialEq, Eq)]
-#[non_exhaustive]
+#[cfg_attr(not(feature = "exhaustive"), non_exhaustive)]
 pub enum PacerError {
     /// With this packet more than `bound` bytes would wait.
     Full,

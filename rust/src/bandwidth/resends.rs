@@ -30,7 +30,7 @@ impl ResendSettings {
 
 /// Why a packet is not retransmitted.
 #[derive(Clone, Copy, Debug, PartialEq, Eq)]
-#[non_exhaustive]
+#[cfg_attr(not(feature = "exhaustive"), non_exhaustive)]
 pub enum ResendRefused {
     /// The packet was retransmitted less than a round trip ago: the viewer could not have seen it when it requested this.
     TooSoon,

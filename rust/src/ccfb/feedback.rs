@@ -51,7 +51,7 @@ pub struct CongestionFeedback {
 
 /// Why bytes are not congestion control feedback: the first fault in reading order.
 #[derive(Clone, Copy, Debug, PartialEq, Eq)]
-#[non_exhaustive]
+#[cfg_attr(not(feature = "exhaustive"), non_exhaustive)]
 pub enum CcfbFault {
     /// There are fewer than 8 bytes: no room for the SSRC of the sender and the time of the report.
     TooShort,
@@ -86,7 +86,7 @@ impl core::error::Error for CcfbFault {}
 
 /// Why congestion control feedback was not read.
 #[derive(Clone, Copy, Debug, PartialEq, Eq)]
-#[non_exhaustive]
+#[cfg_attr(not(feature = "exhaustive"), non_exhaustive)]
 pub enum CcfbError {
     OutOfMemory,
     /// The bytes are not congestion control feedback.

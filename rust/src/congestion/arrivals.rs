@@ -11,7 +11,7 @@ pub const MAX_WINDOW: usize = 32_768;
 
 /// The setting of a log that is out of range.
 #[derive(Clone, Copy, Debug, PartialEq, Eq)]
-#[non_exhaustive]
+#[cfg_attr(not(feature = "exhaustive"), non_exhaustive)]
 pub enum ArrivalLogError {
     /// The window is 0, or above [`MAX_WINDOW`].
     Window,

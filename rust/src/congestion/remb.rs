@@ -8,7 +8,7 @@ use core::fmt;
 
 /// Why bytes are not an estimate: the first fault in reading order.
 #[derive(Clone, Copy, Debug, PartialEq, Eq)]
-#[non_exhaustive]
+#[cfg_attr(not(feature = "exhaustive"), non_exhaustive)]
 pub enum RembFault {
     /// Fewer than 8 bytes are left for the identifier and the bitrate.
     TooShort,

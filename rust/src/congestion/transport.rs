@@ -9,7 +9,7 @@ use core::fmt;
 
 /// Why bytes are not a transport-wide feedback: the first fault in reading order.
 #[derive(Clone, Copy, Debug, PartialEq, Eq)]
-#[non_exhaustive]
+#[cfg_attr(not(feature = "exhaustive"), non_exhaustive)]
 pub enum TransportFault {
     /// Fewer than 8 bytes are left for the header.
     HeaderTooShort,
@@ -44,7 +44,7 @@ impl core::error::Error for TransportFault {}
 
 /// Why a transport-wide feedback was not read.
 #[derive(Clone, Copy, Debug, PartialEq, Eq)]
-#[non_exhaustive]
+#[cfg_attr(not(feature = "exhaustive"), non_exhaustive)]
 pub enum TransportError {
     OutOfMemory,
     /// The bytes are not a transport-wide feedback.

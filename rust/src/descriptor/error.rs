@@ -6,7 +6,7 @@ use core::fmt;
 
 /// Why bytes are not a dependency descriptor: the first fault in reading order.
 #[derive(Clone, Copy, Debug, PartialEq, Eq)]
-#[non_exhaustive]
+#[cfg_attr(not(feature = "exhaustive"), non_exhaustive)]
 pub enum DescriptorFault {
     /// The bytes end inside a field.
     Short,
@@ -44,7 +44,7 @@ impl core::error::Error for DescriptorFault {}
 
 /// Why a dependency descriptor was not read.
 #[derive(Clone, Copy, Debug, PartialEq, Eq)]
-#[non_exhaustive]
+#[cfg_attr(not(feature = "exhaustive"), non_exhaustive)]
 pub enum DescriptorError {
     OutOfMemory,
     /// The bytes are not a dependency descriptor that can be read.

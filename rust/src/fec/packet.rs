@@ -31,7 +31,7 @@ pub struct FecPacket<'a> {
 
 /// Why bytes are not a packet of FEC: the first fault in reading order.
 #[derive(Clone, Copy, Debug, PartialEq, Eq)]
-#[non_exhaustive]
+#[cfg_attr(not(feature = "exhaustive"), non_exhaustive)]
 pub enum FecFault {
     /// There are fewer than the 10 bytes of the FEC header.
     HeaderTooShort,

@@ -2,12 +2,12 @@
 
 //! One stream of a viewer: packets of one source after another, under the viewer's SSRC, payload type, numbers and times.
 
-use crate::forward::beginning::begins;
 use crate::forward::ids::{ForwardedIds, IdOffsets};
 use crate::forward::payloads::{closing_id, ids_in, rewrite};
 use crate::forward::renumbering::{Placed, Renumbering};
 use crate::forward::times::Retiming;
 use crate::history::retransmission::{History, RetransmissionStream};
+use crate::layers::reading::begins_keyframe;
 use crate::memory::{AllocError, TryVec};
 use crate::rtp::packet::{PacketHeader, RtpPacket};
 use crate::wire::Codec;
@@ -36,7 +36,7 @@ pub struct ForwardSettings {
 
 /// Which setting is out of range.
 #[derive(Clone, Copy, Debug, PartialEq, Eq)]
-#[non_exhaustive]
+#[cfg_attr(not(feature = "exhaustive"), non_exhaustive)]
 pub enum ForwardError {
     /// The payload type is above 127.
     PayloadType,
@@ -64,7 +64,7 @@ impl core::error::Error for ForwardError {}
 
 /// What [`Forwarder::write`] or [`Forwarder::leave_out`] did with a packet.
 #[derive(Clone, Copy, Debug, PartialEq, Eq)]
-#[non_exhaustive]
+#[cfg_attr(not(feature = "exhaustive"), non_exhaustive)]
 pub enum Forwarded {
     /// The packet was written, and is the first of another source. Packets of this source with higher numbers may have come before
     /// it: pass them again.
@@ -293,7 +293,7 @@ impl Forwarder {
         if !is_source(self.wanted, ssrc) {
             return Ok(Forwarded::OtherSource);
         }
-        if !begins(self.settings.codec, packet.payload) {
+        if !begins_keyframe(self.settings.codec, packet.payload) {
             return Ok(Forwarded::NoKeyframe);
         }
         self.begin(now, packet, out)

@@ -8,7 +8,7 @@ use crate::rtcp::packet::{Nack, RtcpError, RtcpPacket};
 
 /// A request to the sender of a stream.
 #[derive(Clone, Copy, Debug, PartialEq, Eq)]
-#[non_exhaustive]
+#[cfg_attr(not(feature = "exhaustive"), non_exhaustive)]
 pub enum Request {
     /// The packet with that sequence number is to be resent: a generic NACK names it (RFC 4585, section 6.2.1).
     Packet(u16),

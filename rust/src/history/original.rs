@@ -17,7 +17,7 @@ pub struct OriginalStream {
 
 /// Why the packet that a retransmission repeats was not written.
 #[derive(Clone, Copy, Debug, PartialEq, Eq)]
-#[non_exhaustive]
+#[cfg_attr(not(feature = "exhaustive"), non_exhaustive)]
 pub enum OriginalError {
     /// The payload type of the stream is above 127.
     PayloadType,

@@ -38,7 +38,7 @@ pub struct HistorySettings {
 
 /// Which setting is out of range.
 #[derive(Clone, Copy, Debug, PartialEq, Eq)]
-#[non_exhaustive]
+#[cfg_attr(not(feature = "exhaustive"), non_exhaustive)]
 pub enum HistoryError {
     /// The limit is 0, or above [`MAX_HISTORY`].
     Limit,
@@ -59,7 +59,7 @@ impl core::error::Error for HistoryError {}
 
 /// Why a datagram was not kept.
 #[derive(Clone, Copy, Debug, PartialEq, Eq)]
-#[non_exhaustive]
+#[cfg_attr(not(feature = "exhaustive"), non_exhaustive)]
 pub enum KeepError {
     /// It is not an RTP packet.
     Rtp(RtpError),

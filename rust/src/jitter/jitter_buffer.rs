@@ -10,7 +10,9 @@ mod answers;
 mod due;
 mod former;
 mod keeping;
+mod noting;
 mod restarting;
+mod suspect;
 mod unit_pops;
 
 use crate::buffer::{Depacketized, DepacketizingBuffer, PackedHeader, PackedMeta};
@@ -29,6 +31,7 @@ use crate::jitter::outcome::{
 pub use crate::jitter::waiting::WaitLimits;
 use crate::jitter::waiting::{deadline, room_for};
 use crate::wire::{Frequency, MediaTime, RtpHeader, SeqNo, Ticks};
+pub use suspect::BeforeRestart;
 
 /// The largest number of packets that one push stores: the pushed packet, and a suspect packet.
 const AT_ONCE: usize = 2;

@@ -58,6 +58,22 @@ impl KeptMissing {
         }
     }
 
+    /// Records that the numbers from `first` up to `end`, exclusive, may have changed. A call for the first and one for the last of them
+    /// would not do: a number from `high` on is left out.
+    pub(crate) fn touch_range(&mut self, first: u64, end: u64) {
+        if first < self.high {
+            self.from = self.from.min(first);
+            self.to = self.to.max(end);
+        }
+    }
+
+    /// Records that all numbers from this one on may have changed, if there is one.
+    pub(crate) fn touch_from(&mut self, first: Option<u64>) {
+        if let Some(first) = first {
+            self.touch_range(first, self.high);
+        }
+    }
+
     /// Makes the kept numbers exact again, from `next` on, until there are `most` of them or `end` is reached.
     pub(crate) fn renew<B: Depacketizer>(
         &mut self,

@@ -41,6 +41,25 @@ impl NoMediaNumbers {
         note_in_room(&mut self.numbers, number);
     }
 
+    /// Notes the numbers from `first` up to `end`, exclusive, in one pass. If there are then too many, the lowest are forgotten. Returns how
+    /// many of the range were not noted before. If memory runs out, nothing changes.
+    pub(crate) fn note_range(&mut self, first: u64, end: u64) -> Result<usize, AllocError> {
+        let all = with_range(&self.numbers, first, end)?;
+        let more = all.len().saturating_sub(self.numbers.len());
+        self.numbers = latest_of(all)?;
+        Ok(more)
+    }
+
+    /// Returns the lowest number, if `count` further numbers may not be noted without forgetting some.
+    pub(crate) fn lowest_if_crowded(&self, count: u64) -> Option<u64> {
+        match self.numbers.first() {
+            Some(lowest) if count.saturating_add(self.numbers.len() as u64) > MOST as u64 => {
+                Some(*lowest)
+            }
+            _ => None,
+        }
+    }
+
     /// Returns the lowest number, if no further number can be noted without forgetting it.
     pub(crate) fn lowest_if_full(&self) -> Option<u64> {
         match self.numbers.first() {
@@ -94,6 +113,52 @@ fn place_in(no_media_numbers: &[u64], number: u64) -> usize {
         }
     }
     no_media_numbers.len()
+}
+
+/// Returns the numbers below `first`, those from `first` up to `end`, exclusive, and the numbers from `end` on.
+fn with_range(numbers: &Vec<u64>, first: u64, end: u64) -> Result<Vec<u64>, AllocError> {
+    let mut all = Vec::new();
+    append_below(numbers, first, &mut all)?;
+    append_range(first, end, &mut all)?;
+    append_from(numbers, end, &mut all)?;
+    Ok(all)
+}
+
+/// Appends the numbers below `first`.
+fn append_below(numbers: &[u64], first: u64, out: &mut Vec<u64>) -> Result<(), AllocError> {
+    for number in numbers {
+        if *number < first {
+            out.try_push(*number)?;
+        }
+    }
+    Ok(())
+}
+
+/// Appends all numbers from `first` up to `end`, exclusive.
+fn append_range(first: u64, end: u64, out: &mut Vec<u64>) -> Result<(), AllocError> {
+    for number in first..end {
+        out.try_push(number)?;
+    }
+    Ok(())
+}
+
+/// Appends the numbers from `end` on.
+fn append_from(numbers: &[u64], end: u64, out: &mut Vec<u64>) -> Result<(), AllocError> {
+    for number in numbers {
+        if *number >= end {
+            out.try_push(*number)?;
+        }
+    }
+    Ok(())
+}
+
+/// Returns the highest numbers, as many as are remembered.
+fn latest_of(numbers: Vec<u64>) -> Result<Vec<u64>, AllocError> {
+    if numbers.len() <= MOST {
+        return Ok(numbers);
+    }
+    let above = numbers.len() - MOST;
+    Vec::try_from_slice(&numbers[above..])
 }
 
 /// Moves the cutoff of the buffer past the numbers without media that come right after it, and forgets these numbers.

@@ -39,7 +39,7 @@ impl Extended {
 
 /// The window that is out of range.
 #[derive(Clone, Copy, Debug, PartialEq, Eq)]
-#[non_exhaustive]
+#[cfg_attr(not(feature = "exhaustive"), non_exhaustive)]
 pub enum WindowError {
     /// The forward window is 0, or above 32,768.
     Forward,

@@ -7,7 +7,7 @@ use crate::error::PacketError;
 
 /// What was done with a packet.
 #[derive(Clone, Copy, Debug, PartialEq, Eq)]
-#[non_exhaustive]
+#[cfg_attr(not(feature = "exhaustive"), non_exhaustive)]
 pub enum Outcome {
     /// The packet was stored.
     Held,

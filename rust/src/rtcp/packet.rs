@@ -6,7 +6,7 @@ use core::fmt;
 
 /// Why bytes are not a compound RTCP packet: the first fault in reading order.
 #[derive(Clone, Copy, Debug, PartialEq, Eq)]
-#[non_exhaustive]
+#[cfg_attr(not(feature = "exhaustive"), non_exhaustive)]
 pub enum RtcpError {
     /// Fewer than 4 bytes are left for the header of a packet. Also the fault of an empty datagram.
     HeaderTooShort,

@@ -15,7 +15,7 @@ pub const FIXED_HEADER_LEN: usize = 12;
 
 /// Why bytes are not an RTP packet: the first fault in reading order.
 #[derive(Clone, Copy, Debug, PartialEq, Eq)]
-#[non_exhaustive]
+#[cfg_attr(not(feature = "exhaustive"), non_exhaustive)]
 pub enum RtpError {
     /// There are fewer than 12 bytes.
     HeaderTooShort,

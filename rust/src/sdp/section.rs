@@ -138,6 +138,7 @@ pub(super) fn inherit<'a>(
     session: &mut Media<'a>,
 ) -> Result<(), AllocError> {
     media.is_encrypted |= session.is_encrypted;
+    media.has_receiver_rtt |= media.is_rtp && session.has_receiver_rtt;
     media.transport.inherit_fingerprints(&session.transport)?;
     for place in 0..URIS.len() {
         let of_session = *id_of(session, place);
@@ -220,6 +221,21 @@ fn ssrc(text: &str) -> Result<u32, ErrorKind> {
     number(text, u32::MAX).ok_or(ErrorKind::Ssrc)
 }
 
+/// `rcvr-rtt=all:10000 stat-summary=loss`
+fn has_receiver_rtt(mut rest: &str) -> bool {
+    loop {
+        let format = word(&mut rest);
+        match format
+            .strip_prefix("rcvr-rtt=")
+            .map(|mode| parts(mode, ':').0)
+        {
+            Some("all" | "sender") => return true,
+            _ if format.is_empty() => return false,
+            _ => {}
+        }
+    }
+}
+
 impl<'a> Section<'a> {
     /// Reads what says the formats: the first pass.
     fn read_formats(&mut self, line: &'a str) -> Read {
@@ -251,6 +267,10 @@ impl<'a> Section<'a> {
         match name {
             "extmap" => self.read_extmap(value),
             "group" if self.is_session => group(value).map(drop),
+            "rtcp-xr" if self.is_session || self.media.is_rtp => {
+                self.media.has_receiver_rtt |= has_receiver_rtt(value);
+                Ok(())
+            }
             _ if self.is_session => read_value(&mut self.media, Part::Session, name, value),
             _ if !self.media.is_rtp => read_value(&mut self.media, Part::Other, name, value),
             "fmtp" => self.read_fmtp(value),

@@ -11,7 +11,7 @@ use crate::wire::Ticks;
 
 /// What a session did with a datagram.
 #[derive(Clone, Copy, Debug, PartialEq, Eq)]
-#[non_exhaustive]
+#[cfg_attr(not(feature = "exhaustive"), non_exhaustive)]
 pub enum Arrival {
     /// A compound packet of RTCP. The streams that its BYE names end (RFC 3550, section 6.6), and its sender reports state the
     /// clocks of streams (section 6.4.1).

@@ -23,7 +23,7 @@ const LARGEST_STEP: u32 = 16_383;
 /// `telephone_events`, the name of `feedback`, `transport`: its extension id and its window. A format is checked in the order: codec, payload type, payload type and step of RED, payload type of
 /// retransmissions, payload type of retransmitted RED packets.
 #[derive(Clone, Copy, Debug, PartialEq, Eq)]
-#[non_exhaustive]
+#[cfg_attr(not(feature = "exhaustive"), non_exhaustive)]
 pub enum SessionSettingsError {
     /// `limit` is 0, or above 65,536.
     Limit,

@@ -14,7 +14,7 @@ use alloc::vec::Vec;
 /// [`Session::poll`]: crate::session::sessions::Session::poll
 /// [`Session::poll_into`]: crate::session::sessions::Session::poll_into
 #[derive(Debug)]
-#[non_exhaustive]
+#[cfg_attr(not(feature = "exhaustive"), non_exhaustive)]
 pub enum Event<U = PoppedUnit> {
     /// A stream is announced. This is the first event of the stream. [`Session::names_of`] returns its MID and RID, as far as its
     /// packets had them before.

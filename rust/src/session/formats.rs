@@ -114,6 +114,12 @@ pub struct FeedbackSettings {
     /// first ones that had no block in this round, and a round ends once all had one. So each of `n` streams is reported at least
     /// once in `n / k` intervals, rounded up, if `k` blocks fit. One block is written also if it does not fit.
     pub max_report: usize,
+    /// Whether reports also measure the round trip (RFC 3611, sections 4.4 and 4.5). Each report then has a reference time of the
+    /// session, in 20 bytes, and an answer to the latest reference time that came since the previous report, if one came, in 24 bytes. A
+    /// sender that answers so tells the round trip, from the first loss on: it counts for all streams, in place of the answers to
+    /// requests, until three reports in a row have no answer. A peer that does not know extended reports skips them; `a=rtcp-xr` with
+    /// `rcvr-rtt` says who does.
+    pub extended: bool,
 }
 
 /// The settings of a session.
@@ -206,7 +212,7 @@ impl FeedbackSettings {
     /// Returns settings for live streams and a clock in milliseconds, with this SSRC and this canonical name of 1 to 255 bytes:
     /// requests in packets of reduced size, the defaults of [`NackSettings`], and at most one request for a keyframe in 100 ms.
     /// Waiting follows the round trip, up to 1,500 ms. Nothing is requested 2 s after the latest datagram. A receiver report of at
-    /// most 1,200 bytes is sent each second. Does not allocate.
+    /// most 1,200 bytes is sent each second, with extended reports. Does not allocate.
     pub fn live(ssrc: u32, cname: Vec<u8>) -> FeedbackSettings {
         FeedbackSettings {
             ssrc,
@@ -218,6 +224,7 @@ impl FeedbackSettings {
             longest_wait: Some(1_500),
             report_interval: Some(1_000),
             max_report: 1_200,
+            extended: true,
         }
     }
 }

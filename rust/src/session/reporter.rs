@@ -10,6 +10,7 @@ use crate::session::formats::{FeedbackSettings, LONGEST_NAME, SessionSettings};
 use crate::session::stream::StreamState;
 use crate::session::streams::Streams;
 use crate::wire::{Frequency, Ticks};
+use crate::xr::exchange::{TimeExchange, reference_time};
 use alloc::vec::Vec;
 
 /// The bytes of the 31 blocks that a receiver report holds at most.
@@ -51,8 +52,9 @@ impl Streams {
         let Some(interval) = feedback.report_interval else {
             return None;
         };
-        if !is_report_due(&self.list, now, *due) {
-            *due = planned(&self.list, now, interval, *due);
+        let is_reporting = self.is_reporting();
+        if !is_report_due(is_reporting, now, *due) {
+            *due = planned(is_reporting, now, interval, *due);
             return None;
         }
         let packet = self.report_all(feedback, tick_rate, now);
@@ -60,7 +62,8 @@ impl Streams {
         Some(packet)
     }
 
-    /// Returns the packet with the blocks of the first streams that are due. If memory runs out, nothing has changed.
+    /// Returns the packet with the blocks of the first streams that are due, and the extended reports. If memory runs out, nothing has
+    /// changed.
     #[inline(never)]
     fn report_all(
         &mut self,
@@ -71,28 +74,26 @@ impl Streams {
         let round = next_round(&self.list, most_blocks(feedback));
         let mut blocks = Vec::new();
         append_blocks(&self.list, round, now, tick_rate, &mut blocks)?;
-        let packet = write_report(feedback, &blocks)?;
+        let time = reference_time(now, tick_rate);
+        let packet = write_report(feedback, &blocks, &self.exchange, time)?;
         self.waking.forget();
         start_fractions(&mut self.list, round);
+        self.note_sent();
         Ok(packet)
     }
 }
 
-/// Returns when the next report is due, if a stream is announced.
-pub(crate) fn report_deadline(streams: &[StreamState], due: Option<u64>) -> Option<u64> {
+/// Returns when the next report is due, if one is to be sent.
+pub(crate) fn report_deadline(is_reporting: bool, due: Option<u64>) -> Option<u64> {
     let Some(at) = due else {
         return None;
     };
-    if any_announced(streams) {
-        Some(at)
-    } else {
-        None
-    }
+    if is_reporting { Some(at) } else { None }
 }
 
-/// Returns whether a report is due: its time has come, and a stream is announced.
-fn is_report_due(streams: &[StreamState], now: Ticks, due: Option<u64>) -> bool {
-    is_time(now, due) && any_announced(streams)
+/// Returns whether a report is due: its time has come, and one is to be sent.
+fn is_report_due(is_reporting: bool, now: Ticks, due: Option<u64>) -> bool {
+    is_time(now, due) && is_reporting
 }
 
 /// Returns whether the time has come.
@@ -103,9 +104,9 @@ fn is_time(now: Ticks, due: Option<u64>) -> bool {
     }
 }
 
-/// Returns when the next report is due if none is now: one interval after the first stream is announced.
-fn planned(streams: &[StreamState], now: Ticks, interval: u64, due: Option<u64>) -> Option<u64> {
-    if !any_announced(streams) {
+/// Returns when the next report is due if none is now: one interval after there is something to report.
+fn planned(is_reporting: bool, now: Ticks, interval: u64, due: Option<u64>) -> Option<u64> {
+    if !is_reporting {
         return None;
     }
     match due {
@@ -133,7 +134,7 @@ fn due_after(
 }
 
 /// Returns whether a stream is announced.
-fn any_announced(streams: &[StreamState]) -> bool {
+pub(crate) fn any_announced(streams: &[StreamState]) -> bool {
     for stream in streams {
         if stream.announced {
             return true;
@@ -203,10 +204,16 @@ fn blocks_within(bytes: usize) -> usize {
     31 * (bytes / (8 + MOST_BYTES)) + (bytes % (8 + MOST_BYTES)).saturating_sub(8) / 24
 }
 
-/// Returns how many blocks a report has at most: those that fit beside the name, and at least one.
+/// Returns how many bytes extended reports may have in a report.
+fn extended_length(extended: bool) -> usize {
+    if extended { 44 } else { 0 }
+}
+
+/// Returns how many blocks a report has at most: those that fit beside the name and the extended reports, and at least one.
 fn most_blocks(feedback: &FeedbackSettings) -> usize {
     let name = name_length(LONGEST_NAME.min(feedback.cname.len()));
-    blocks_within(feedback.max_report.saturating_sub(name)).max(1)
+    let room = feedback.max_report.saturating_sub(name);
+    blocks_within(room.saturating_sub(extended_length(feedback.extended))).max(1)
 }
 
 /// Appends the blocks about the first streams that are due.
@@ -259,11 +266,17 @@ fn start_fractions(streams: &mut [StreamState], round: Round) {
     }
 }
 
-/// Returns a compound packet of receiver reports with these blocks, and the name.
-fn write_report(feedback: &FeedbackSettings, blocks: &[u8]) -> Result<Vec<u8>, AllocError> {
+/// Returns a compound packet of receiver reports with these blocks, the name, and the extended reports at this NTP time.
+fn write_report(
+    feedback: &FeedbackSettings,
+    blocks: &[u8],
+    exchange: &TimeExchange,
+    time: u64,
+) -> Result<Vec<u8>, AllocError> {
     let mut packet = Vec::new();
     write_groups(feedback.ssrc, blocks, &mut packet)?;
     write_name(feedback, &mut packet)?;
+    write_extended(feedback, exchange, time, &mut packet)?;
     Ok(packet)
 }
 
@@ -286,6 +299,20 @@ fn write_group(ssrc: u32, blocks: &[u8], out: &mut Vec<u8>) -> Result<(), AllocE
         extension: &[],
     };
     report.write(out)
+}
+
+/// Appends the extended reports at this NTP time, if the session has them.
+fn write_extended(
+    feedback: &FeedbackSettings,
+    exchange: &TimeExchange,
+    time: u64,
+    out: &mut Vec<u8>,
+) -> Result<(), AllocError> {
+    if feedback.extended {
+        exchange.write(feedback.ssrc, time, out)
+    } else {
+        Ok(())
+    }
 }
 
 /// Appends the description of the session, if it has a name.

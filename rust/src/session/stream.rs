@@ -29,7 +29,7 @@ use alloc::vec::Vec;
 
 /// Why a stream ended.
 #[derive(Clone, Copy, Debug, PartialEq, Eq)]
-#[non_exhaustive]
+#[cfg_attr(not(feature = "exhaustive"), non_exhaustive)]
 pub enum Ending {
     /// Its sender left by a BYE (RFC 3550, section 6.6).
     Bye,
@@ -45,7 +45,7 @@ pub enum Ending {
 
 /// The stage of a stream's life.
 #[derive(Clone, Copy, Debug, PartialEq, Eq)]
-#[non_exhaustive]
+#[cfg_attr(not(feature = "exhaustive"), non_exhaustive)]
 pub enum Stage {
     /// Too few datagrams were accepted so far, and the stream is not announced.
     Probation,
@@ -111,7 +111,7 @@ pub(crate) struct StreamState {
     /// The names that its accepted packets had.
     pub names: StreamNames,
     /// At earlier times a step has no event, unless the stream is idle. 0: it is not known.
-    quiet_until: u64,
+    pub(crate) quiet_until: u64,
     /// Its `work_deadline`, unless `quiet_until` is 0. 0: there is none.
     work: u64,
 }

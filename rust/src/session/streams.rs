@@ -24,6 +24,7 @@ use crate::session::stream::{
 use crate::session::waking::{Waking, step_due, step_excepted};
 use crate::stream::parsed::ParsedDatagram;
 use crate::wire::{Frequency, Ticks};
+use crate::xr::exchange::TimeExchange;
 use alloc::vec::Vec;
 
 /// The streams of a session.
@@ -40,6 +41,8 @@ pub(crate) struct Streams {
     pub(crate) last: Option<StreamInfo>,
     /// When they may have their next events.
     pub(crate) waking: Waking,
+    /// What the session knows by extended reports.
+    pub(crate) exchange: TimeExchange,
 }
 
 /// The streams to end.
@@ -60,6 +63,7 @@ impl Streams {
             ended: 0,
             last: None,
             waking: Waking::unknown(),
+            exchange: TimeExchange::new(),
         }
     }
 
@@ -87,6 +91,7 @@ impl Streams {
             Ok(packets) => {
                 let at = now.0.saturating_add(settings.bye_wait);
                 self.take_packets(now, at, packets);
+                self.exchange_by(settings, now, datagram);
                 Arrival::Rtcp
             }
             Err(_) => Arrival::Malformed,
@@ -262,6 +267,7 @@ impl Streams {
         }
         let (ssrc, format) = of;
         let mut stream = StreamState::begin(settings, ssrc, &format)?;
+        stream.tell_round_trip(self.exchange.round_trip);
         let answer = stream.take(now, settings.probation, datagram);
         if is_no_memory(&answer) {
             return Err(AllocError);

@@ -3,11 +3,11 @@
 //! What the packets of a stream of video say of the frames that they begin, until these frames are released.
 
 use crate::buffer::{Depacketized, PoppedUnit};
-use crate::codec::CodecDepacketizer;
+use crate::codec::{CodecDepacketizer, Depacketizer};
 use crate::error::PacketError;
 use crate::frame_notes::note::FrameNote;
 use crate::frame_notes::notes::FrameNotes;
-use crate::jitter::jitter_buffer::Outcome;
+use crate::jitter::jitter_buffer::{JitterBuffer, Outcome};
 use crate::keyframes::references::UnitReferences;
 use crate::keyframes::unit_gate::FromKeyframe;
 use crate::memory::{AllocError, One};
@@ -24,6 +24,8 @@ use crate::wire::Codec;
 pub(crate) struct StreamNotes {
     /// The notes, in memory that the first note allocates.
     notes: Option<One<FrameNotes>>,
+    /// The note of the suspect packet that the jitter buffer keeps, with its number.
+    suspect: Option<(u16, FrameNote)>,
     /// The largest number of notes.
     most: usize,
     /// The id of the header extension element with the dependency descriptor.
@@ -36,6 +38,7 @@ pub(crate) struct StreamNotes {
 #[derive(Clone, Copy, Debug)]
 struct Media<'a> {
     number: u16,
+    time: u32,
     extension: Option<HeaderExtension<'a>>,
     payload: &'a [u8],
 }
@@ -44,6 +47,7 @@ struct Media<'a> {
 #[derive(Debug)]
 pub(crate) struct PendingNote {
     number: u16,
+    time: u32,
     note: Option<FrameNote>,
 }
 
@@ -66,6 +70,7 @@ pub(crate) fn notes_for<B>(
     }
     Some(StreamNotes {
         notes: None,
+        suspect: None,
         most: settings.limit,
         descriptor: settings.dependency_descriptor,
         is_vp9,
@@ -78,11 +83,13 @@ fn media_in<'a>(stream: &StreamKinds, datagram: &Datagram<'a>) -> Option<Media<'
     match datagram {
         Datagram::Media(packet) => Some(Media {
             number: packet.header.sequence_number,
+            time: packet.header.timestamp,
             extension: packet.header.extension,
             payload: packet.payload,
         }),
         Datagram::SentAgain(sent) => Some(Media {
             number: sent.number,
+            time: sent.header.timestamp,
             extension: sent.header.extension,
             payload: sent.payload,
         }),
@@ -98,13 +105,14 @@ fn primary_media<'a>(stream: &StreamKinds, red: &RedPacket<'a>) -> Option<Media<
     }
     Some(Media {
         number: red.header.sequence_number,
+        time: red.header.timestamp,
         extension: red.header.extension,
         payload: red.primary.payload,
     })
 }
 
 impl StreamNotes {
-    /// Returns what a packet says of the frame that it begins, and makes room for its note and for that of a suspect packet. The
+    /// Returns what a packet says of the frame that it begins, and makes room for its note and for the note of a suspect packet. The
     /// notes stay as they are, also if memory runs out.
     fn prepare(&mut self, media: &Media<'_>) -> Result<PendingNote, AllocError> {
         let descriptor = match self.descriptor {
@@ -115,16 +123,17 @@ impl StreamNotes {
         self.make_room(note.is_some())?;
         Ok(PendingNote {
             number: media.number,
+            time: media.time,
             note,
         })
     }
 
-    /// Makes room for two notes. Before the first note it allocates only if there is one.
+    /// Makes room for two notes. Before the first note it allocates only if there is one, of this packet or of a suspect packet.
     fn make_room(&mut self, has_note: bool) -> Result<(), AllocError> {
         if let Some(notes) = &mut self.notes {
             return notes.reserve();
         }
-        if has_note {
+        if has_note || self.suspect.is_some() {
             let mut notes = FrameNotes::new(self.most);
             notes.reserve()?;
             self.notes = Some(One::try_new(notes)?);
@@ -132,18 +141,68 @@ impl StreamNotes {
         Ok(())
     }
 
-    /// Stores the note of a packet with this outcome. `highest`: the highest extended number so far.
-    fn settle(&mut self, pending: PendingNote, outcome: Outcome, highest: Option<u64>) {
-        if let Some(notes) = &mut self.notes {
-            settle_in(notes, pending, outcome, highest);
+    /// Stores the notes that a datagram brings. `restart`: it confirmed a restart; whether a suspect packet was stored with it.
+    fn settle<B: Depacketizer>(
+        &mut self,
+        pending: Option<PendingNote>,
+        outcome: Outcome,
+        restart: Option<bool>,
+        packets: &JitterBuffer<B>,
+    ) {
+        let highest = packets.greatest();
+        if let Some(is_stored) = restart {
+            self.settle_suspect(is_stored, highest);
+        }
+        if let Some(pending) = pending {
+            let is_kept = packets.keeps_suspect(pending.number, pending.time);
+            self.settle_own(pending, outcome, is_kept, highest);
         }
     }
 
-    /// Forgets the note of the suspect packet.
-    fn forget_suspect(&mut self) {
-        if let Some(notes) = &mut self.notes {
-            notes.take_suspect();
+    /// Takes the note of the suspect packet at a restart, and inserts it if that packet was stored.
+    fn settle_suspect(&mut self, is_stored: bool, highest: Option<u64>) {
+        let Some((number, note)) = self.suspect.take() else {
+            return;
+        };
+        if !is_stored {
+            return;
         }
+        if let Some(notes) = &mut self.notes {
+            insert(notes, highest, number, note);
+        }
+    }
+
+    /// Stores the note of a packet with this outcome. `is_kept`: the jitter buffer keeps it as suspect.
+    fn settle_own(
+        &mut self,
+        pending: PendingNote,
+        outcome: Outcome,
+        is_kept: bool,
+        highest: Option<u64>,
+    ) {
+        let PendingNote { number, note, .. } = pending;
+        match outcome {
+            Outcome::Held | Outcome::HeldAndEvicted | Outcome::Restarted(_) => {
+                self.insert_note(number, note, highest);
+            }
+            Outcome::Suspect if is_kept => self.suspect = with_number(number, note),
+            _ => {}
+        }
+    }
+
+    /// Inserts the note of a packet, if it has one.
+    fn insert_note(&mut self, number: u16, note: Option<FrameNote>, highest: Option<u64>) {
+        let Some(note) = note else {
+            return;
+        };
+        if let Some(notes) = &mut self.notes {
+            insert(notes, highest, number, note);
+        }
+    }
+
+    /// Removes and returns the note of the suspect packet.
+    fn take_suspect(&mut self) -> Option<(u16, FrameNote)> {
+        self.suspect.take()
     }
 
     /// Takes the notes with numbers up to `last`, and returns what those from `first` on say of their unit.
@@ -155,39 +214,21 @@ impl StreamNotes {
     }
 }
 
-/// Stores the note of a packet with this outcome, and for a restart that of the suspect packet before it.
-fn settle_in(notes: &mut FrameNotes, pending: PendingNote, outcome: Outcome, highest: Option<u64>) {
-    let PendingNote { number, note } = pending;
-    match outcome {
-        Outcome::Held | Outcome::HeldAndEvicted => insert(notes, number, note, highest),
-        Outcome::Suspect => notes.keep_suspect(number, note),
-        Outcome::Restarted(with_kept) => {
-            insert_kept(notes, with_kept, highest);
-            insert(notes, number, note, highest);
-        }
-        _ => {}
-    }
+/// Inserts a note under the number nearest to the highest one.
+fn insert(notes: &mut FrameNotes, highest: Option<u64>, number: u16, note: FrameNote) {
+    notes.insert(near(highest, number), note);
 }
 
-/// Takes the note of the suspect packet, and inserts it if that packet was stored.
-fn insert_kept(notes: &mut FrameNotes, is_stored: bool, highest: Option<u64>) {
-    let Some((number, note)) = notes.take_suspect() else {
-        return;
-    };
-    if is_stored {
-        notes.insert(near(highest, number), note);
-    }
-}
-
-/// Inserts the note of a packet, if it has one.
-fn insert(notes: &mut FrameNotes, number: u16, note: Option<FrameNote>, highest: Option<u64>) {
-    if let Some(note) = note {
-        notes.insert(near(highest, number), note);
+/// Returns a note with the number of its packet.
+fn with_number(number: u16, note: Option<FrameNote>) -> Option<(u16, FrameNote)> {
+    match note {
+        Some(note) => Some((number, note)),
+        None => None,
     }
 }
 
 /// Returns the number nearest to `highest` with these low 16 bits, half of the range ahead.
-fn near(highest: Option<u64>, low: u16) -> u64 {
+pub(crate) fn near(highest: Option<u64>, low: u16) -> u64 {
     let Some(highest) = highest else {
         return u64::from(low);
     };
@@ -199,8 +240,16 @@ fn near(highest: Option<u64>, low: u16) -> u64 {
     }
 }
 
-/// Returns the note of the packet that a datagram brings, and makes room for it, if the stream needs notes. The notes stay as they
-/// are, also if memory runs out.
+/// Returns whether a datagram is of a kind for which memory is taken.
+fn takes_memory(datagram: &Datagram<'_>) -> bool {
+    !matches!(
+        datagram,
+        Datagram::Rtcp | Datagram::Malformed(_) | Datagram::OtherStream | Datagram::Nothing
+    )
+}
+
+/// Returns the note of the packet that a datagram brings, and makes room for it and for the note of a suspect packet, if the stream
+/// needs notes. The notes stay as they are, also if memory runs out.
 #[inline(always)]
 pub(crate) fn prepare_note(
     notes: &mut Option<StreamNotes>,
@@ -210,32 +259,42 @@ pub(crate) fn prepare_note(
     let Some(notes) = notes else {
         return Ok(None);
     };
-    let Some(media) = media_in(stream, datagram) else {
-        return Ok(None);
-    };
-    let pending = notes.prepare(&media)?;
-    Ok(Some(pending))
+    if let Some(media) = media_in(stream, datagram) {
+        let pending = notes.prepare(&media)?;
+        return Ok(Some(pending));
+    }
+    if takes_memory(datagram) {
+        notes.make_room(false)?;
+    }
+    Ok(None)
 }
 
-/// Stores the note of a packet with this outcome. `highest`: the highest extended number so far.
+/// Stores the notes that a datagram brings. `restart`: it confirmed a restart; whether a suspect packet was stored with it.
 #[inline(always)]
-pub(crate) fn settle_note(
+pub(crate) fn settle_note<B: Depacketizer>(
     notes: &mut Option<StreamNotes>,
     pending: Option<PendingNote>,
     outcome: Outcome,
-    highest: Option<u64>,
+    restart: Option<bool>,
+    packets: &JitterBuffer<B>,
 ) {
     if let Some(notes) = notes {
-        if let Some(pending) = pending {
-            notes.settle(pending, outcome, highest);
-        }
+        notes.settle(pending, outcome, restart, packets);
     }
 }
 
-/// Forgets the note of the suspect packet.
-pub(crate) fn forget_suspect(notes: &mut Option<StreamNotes>) {
+/// Removes and returns the note of the suspect packet.
+pub(crate) fn take_suspect(notes: &mut Option<StreamNotes>) -> Option<(u16, FrameNote)> {
+    match notes {
+        Some(notes) => notes.take_suspect(),
+        None => None,
+    }
+}
+
+/// Puts back the note of the suspect packet.
+pub(crate) fn put_suspect(notes: &mut Option<StreamNotes>, suspect: Option<(u16, FrameNote)>) {
     if let Some(notes) = notes {
-        notes.forget_suspect();
+        notes.suspect = suspect;
     }
 }
 

@@ -6,13 +6,17 @@ use crate::memory::AllocError;
 use alloc::vec::Vec;
 
 mod hearing;
+mod noting;
 mod pops;
 mod unit_pops;
 
 use crate::buffer::DepacketizingBuffer;
 use crate::codec::{CodecDepacketizer, Depacketizer, NoBox};
 use crate::error::PacketError;
-use crate::jitter::jitter_buffer::{JitterBuffer, Outcome, PacketCounters, WaitLimits};
+use crate::frame_notes::note::FrameNote;
+use crate::jitter::jitter_buffer::{
+    BeforeRestart, JitterBuffer, Outcome, PacketCounters, WaitLimits,
+};
 use crate::jitter::missing::MissingNumbers;
 use crate::jitter::numbers::{SequenceNumbers, WindowError};
 use crate::keyframes::unit_gate::{FromKeyframe, UnitGate};
@@ -27,7 +31,7 @@ use crate::stream::datagram::StreamKinds;
 use crate::stream::gated::gate_for;
 pub use crate::stream::kinds::Retransmission;
 use crate::stream::kinds::{Datagram, RedStream};
-use crate::stream::notes::{StreamNotes, forget_suspect, notes_for};
+use crate::stream::notes::{StreamNotes, notes_for, put_suspect, take_suspect};
 use crate::stream::parsed::ParsedDatagram;
 use crate::stream::reports::{ReceptionReport, ReceptionStatistics};
 use crate::stream::seen_times::LazySeenTimes;
@@ -96,7 +100,7 @@ pub struct ReceiverSettings {
 
 /// The setting that is out of range.
 #[derive(Clone, Copy, Debug, PartialEq, Eq)]
-#[non_exhaustive]
+#[cfg_attr(not(feature = "exhaustive"), non_exhaustive)]
 pub enum SettingsError {
     /// The payload type is above 127.
     PayloadType,
@@ -138,7 +142,7 @@ impl core::error::Error for SettingsError {}
 
 /// The reason why a datagram was not received.
 #[derive(Clone, Copy, Debug, PartialEq, Eq)]
-#[non_exhaustive]
+#[cfg_attr(not(feature = "exhaustive"), non_exhaustive)]
 pub enum ReceiveError {
     /// The datagram is not an RTP packet. It is counted as malformed.
     Rtp(RtpError),
@@ -147,7 +151,7 @@ pub enum ReceiveError {
     /// The payload of a retransmission ends inside the original sequence number (RFC 4588). The datagram is counted as
     /// malformed.
     Retransmission,
-    /// Out of memory. This datagram has changed nothing; you can pass it again.
+    /// Out of memory. This datagram has changed nothing; you can pass it again. See [`Receiver::receive`].
     OutOfMemory,
     /// The RED packet itself was received and is counted, and memory ran out for a redundant block. The packet of that block
     /// and the packets of later blocks stay missing. You can pass the datagram again: it is a duplicate, and its blocks are
@@ -209,6 +213,17 @@ pub(crate) struct Arrived {
     rtcp: u64,
     malformed: u64,
     other_streams: u64,
+}
+
+/// What a receiver knew of the sender that it has left.
+#[derive(Debug)]
+struct LeftStream {
+    ssrc: Option<u32>,
+    statistics: ReceptionStatistics,
+    seen: LazySeenTimes,
+    /// The note of the suspect packet, with its number.
+    suspect: Option<(u16, FrameNote)>,
+    before: BeforeRestart,
 }
 
 /// Receives the datagrams of one stream in any order, and returns units in order.
@@ -330,8 +345,9 @@ impl<B: Depacketizer> Receiver<B> {
     ///
     /// # Errors
     ///
-    /// - `OutOfMemory`: this datagram has changed nothing; you can pass it again. A packet that waited may have been received. Only
-    ///   a datagram that takes memory has this error: not RTCP, and no malformed datagram.
+    /// - `OutOfMemory`: nothing has changed; you can pass the datagram again. One exception: it chooses the stream, and memory ran out
+    ///   for it alone; the packet that waited was received then, and the stream is chosen. Only a datagram that takes memory has this
+    ///   error: not RTCP, and no malformed datagram.
     /// - `BlocksOutOfMemory`: the RED packet itself was received; see [`ReceiveError::BlocksOutOfMemory`].
     /// - `Rtp`, `Red`, `Retransmission`: the datagram is counted as malformed, and the stream continues.
     pub fn receive(&mut self, now: Ticks, bytes: &[u8]) -> Result<Outcome, ReceiveError> {
@@ -434,13 +450,24 @@ impl<B: Depacketizer> Receiver<B> {
         now: Ticks,
         datagram: &ParsedDatagram<'_>,
     ) -> Result<Outcome, ReceiveError> {
-        if self.ssrc.is_some() {
-            self.go_over_to(None);
-        }
-        if !self.settle_on(place) {
+        if !self.settle_anew(place) {
             return Err(ReceiveError::OutOfMemory);
         }
         self.hear_rarely(now, datagram)
+    }
+
+    /// Leaves the stream, if there is one, and chooses the stream of the packet that waits at this place. Returns false if memory runs
+    /// out; nothing has changed then.
+    fn settle_anew(&mut self, place: usize) -> bool {
+        if self.ssrc.is_none() {
+            return self.settle_on(place);
+        }
+        let left = self.leave();
+        if self.settle_on(place) {
+            return true;
+        }
+        self.come_back(left);
+        false
     }
 
     /// Chooses the stream of the first waiting packet, if no SSRC was chosen so far. Returns false if memory runs out.
@@ -582,11 +609,31 @@ impl<B: Depacketizer> Receiver<B> {
 
     /// Begins the numbers of another sender, with this SSRC if it is known.
     fn go_over_to(&mut self, ssrc: Option<u32>) {
+        let _ = self.leave();
         self.ssrc = ssrc;
+    }
+
+    /// Begins the numbers of another sender whose SSRC is not known, and returns what [`Receiver::come_back`] needs to undo it.
+    fn leave(&mut self) -> LeftStream {
+        let left = LeftStream {
+            ssrc: self.ssrc,
+            statistics: self.statistics,
+            seen: mem::replace(&mut self.seen, LazySeenTimes::none()),
+            suspect: take_suspect(&mut self.notes),
+            before: self.packets.restart_for_now(),
+        };
+        self.ssrc = None;
         self.statistics = self.statistics.anew();
-        self.seen = LazySeenTimes::none();
-        forget_suspect(&mut self.notes);
-        self.packets.restart();
+        left
+    }
+
+    /// Goes back to the stream that was left.
+    fn come_back(&mut self, left: LeftStream) {
+        self.ssrc = left.ssrc;
+        self.statistics = left.statistics;
+        self.seen = left.seen;
+        put_suspect(&mut self.notes, left.suspect);
+        self.packets.take_back(left.before);
     }
 
     /// Writes the same numbers as [`Receiver::missing`] to `numbers`, in place of what it had, from a list that is kept from call to

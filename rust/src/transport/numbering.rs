@@ -10,7 +10,7 @@ use core::fmt;
 
 /// Why a datagram got no number.
 #[derive(Clone, Copy, Debug, PartialEq, Eq)]
-#[non_exhaustive]
+#[cfg_attr(not(feature = "exhaustive"), non_exhaustive)]
 pub enum NumberingError {
     /// It is not an RTP packet.
     Rtp(RtpError),

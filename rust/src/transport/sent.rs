@@ -14,7 +14,7 @@ pub const MAX_SENT: usize = 32_768;
 
 /// The setting of sent packets that is out of range.
 #[derive(Clone, Copy, Debug, PartialEq, Eq)]
-#[non_exhaustive]
+#[cfg_attr(not(feature = "exhaustive"), non_exhaustive)]
 pub enum SentPacketsError {
     /// The limit is 0, or above [`MAX_SENT`].
     Limit,

@@ -41,7 +41,7 @@ pub struct XrBlock<'a> {
 
 /// Why bytes are not an extended report: the first fault in reading order.
 #[derive(Clone, Copy, Debug, PartialEq, Eq)]
-#[non_exhaustive]
+#[cfg_attr(not(feature = "exhaustive"), non_exhaustive)]
 pub enum XrFault {
     /// There are fewer than 4 bytes: no room for the SSRC of the sender.
     TooShort,

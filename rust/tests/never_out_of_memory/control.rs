@@ -1,7 +1,9 @@
 //! RTCP packets, requests, feedback for congestion control, and the header of RTP packets.
 
 use crate::{Call, made, told};
-use codec_payload::bandwidth::{PacedKind, PacedPacket, Pacer, PacerSettings};
+use codec_payload::bandwidth::{
+    PacedKind, PacedPacket, Pacer, PacerSettings, PathSettings, ViewerPath,
+};
 use codec_payload::ccfb::{CongestionFeedback, PacketMetric, StreamReport, stream_report};
 use codec_payload::congestion::*;
 use codec_payload::fec::{FecPacket, FecWriter, PacketStore};
@@ -16,8 +18,16 @@ use codec_payload::transport::{SentPackets, write_numbered};
 use codec_payload::wire::*;
 use codec_payload::xr::{Dlrr, write_dlrr, write_reference_time};
 
-pub const CALLS: [Call; 16] = [
+pub const CALLS: [Call; 17] = [
     Call(&["Pacer::push"], paced),
+    Call(
+        &[
+            "ViewerPath::feedback",
+            "ViewerPath::new",
+            "ViewerPath::push",
+        ],
+        viewer,
+    ),
     Call(
         &[
             "FecPacket::rebuild",
@@ -373,6 +383,32 @@ fn paced(size: usize) {
             id,
         }));
     }
+}
+
+/// A path with as many packets, all of which leave, and feedback about them and as many more.
+fn viewer(size: usize) {
+    let mut path = made(ViewerPath::new(Ticks(0), PathSettings::live()));
+    for id in 0..size as u64 {
+        made(path.push(PacedPacket {
+            kind: PacedKind::Media,
+            size: 1,
+            id,
+        }));
+    }
+    let mut now = 0;
+    while path.waiting() > 0 {
+        now += 1_000;
+        while path.pop(Ticks(now)).is_some() {}
+    }
+    let statuses = (0..2 * size as u32).map(|it| (it % 3 > 0).then_some(it));
+    let feedback = TransportFeedback {
+        base: 0,
+        reference: 0,
+        counter: 0,
+        statuses: statuses.collect(),
+    };
+    made(path.feedback(Ticks(now), 50_000, &feedback));
+    assert!(path.waiting() == 0);
 }
 
 /// Frames of packets of this size, the first of which is lost.

@@ -80,7 +80,11 @@ pub const CALLS: [Call; 18] = [
         jitter_packed,
     ),
     Call(
-        &["JitterBuffer::push_no_media", "JitterBuffer::pop_unit"],
+        &[
+            "JitterBuffer::push_no_media",
+            "JitterBuffer::note_no_media",
+            "JitterBuffer::pop_unit",
+        ],
         jitter_no_media,
     ),
     Call(
@@ -494,6 +498,8 @@ fn jitter_no_media(size: usize) {
         ] {
             made(buffer.push_no_media(number));
         }
+        let first = 65_536 + 7 * place as u64;
+        made(buffer.note_no_media(first, first + size as u64));
         made(buffer.push(Ticks(0), header(3 * (place % 900)), vec![1]));
     }
     buffer.finish();

@@ -43,6 +43,7 @@ pub const CALLS: [Call; 13] = [
             "Receiver::receive_parsed",
             "Receiver::pop_unit",
             "Receiver::missing_into",
+            "Receiver::note_no_media",
         ],
         packets_of_any_kind,
     ),
@@ -283,6 +284,7 @@ fn packets_of_any_kind(size: usize) {
             let _ = told(receiver.receive_parsed(Ticks(place.into()), &parsed));
         }
         made(receiver.missing_into(size, &mut missing));
+        made(receiver.note_no_media(65_536, 65_536 + size as u64));
     }
     let large = packet(OPUS, 7, 9, 960, &vec![1; payload_size(size)]);
     made(receiver.receive_parsed(Ticks(0), &ParsedDatagram::parse(&large)));

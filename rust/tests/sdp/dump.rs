@@ -263,6 +263,7 @@ fn add_media(out: &mut String, media: &Media<'_>) -> std::fmt::Result {
         (!media.is_rtp, "not RTP"),
         (media.is_encrypted, "encrypted"),
         (media.has_rtcp_mux, "rtcp-mux"),
+        (media.has_receiver_rtt, "rcvr-rtt"),
         (media.is_bundle_only, "bundle-only"),
     ] {
         if is_set {

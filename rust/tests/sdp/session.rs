@@ -371,3 +371,33 @@ fn bounds_of_pairs() {
     let fault = settings(&text(MAX_PAIRS / 64 + 1)).unwrap_err();
     assert_eq!(fault, SessionError::TooManyPairs);
 }
+
+/// Extended reports that measure the round trip (RFC 3611, section 5.1).
+#[test]
+fn receiver_round_trip() {
+    for (of_session, of_section, wanted) in [
+        ("", "", [false, false]),
+        ("", "a=rtcp-xr:rcvr-rtt=all\r\n", [true, false]),
+        ("", "a=rtcp-xr:rcvr-rtt=sender\r\n", [true, false]),
+        (
+            "",
+            "a=rtcp-xr:stat-summary=loss,dup rcvr-rtt=all:10000\r\n",
+            [true, false],
+        ),
+        ("a=rtcp-xr:rcvr-rtt=sender:300\r\n", "", [true, true]),
+        (
+            "a=rtcp-xr:voip-metrics\r\n",
+            "a=rtcp-xr:rcvr-rtt\r\na=rtcp-xr:rcvr-rtt=some\r\n",
+            [false, false],
+        ),
+    ] {
+        let text = format!(
+            "v=0\r\n{of_session}m=audio 9 RTP/AVP 0\r\n{of_section}m=video 9 RTP/AVP 96\r\na=rtpmap:96 VP8/90000\r\n\
+             m=application 9 UDP/DTLS/SCTP webrtc-datachannel\r\na=rtcp-xr:rcvr-rtt=all\r\n"
+        );
+        let media = sdp::read(&text).expect("lines without a fault");
+        let found = [0, 1].map(|place: usize| media[place].has_receiver_rtt);
+        assert_eq!(found, wanted, "{of_session} {of_section}");
+        assert!(!media[2].has_receiver_rtt);
+    }
+}

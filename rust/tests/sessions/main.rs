@@ -5,6 +5,7 @@ mod changes;
 mod datagrams;
 mod deadlines;
 mod descriptors;
+mod extended;
 mod keyframes;
 mod many;
 mod model;

@@ -192,17 +192,17 @@ fn memory_of_sessions_and_streams() {
         "a session: {} bytes, and {session} behind it",
         size_of::<Session>()
     );
-    assert!(size_of::<Session>() + session <= 1_200);
+    assert!(size_of::<Session>() + session <= 1_250);
     println!("a receiver: {} bytes", size_of::<Receiver>());
-    assert!(size_of::<Receiver>() <= 1_220);
+    assert!(size_of::<Receiver>() <= 1_300);
     type Datagram = fn(u32, u16) -> Vec<u8>;
     let audio: Datagram = opus;
     let video: Datagram = |ssrc, number| vp8(ssrc, number, number == 0);
     let lines = [
-        ("audio", audio, 40, 2_810),
-        ("audio", audio, 1_500, 4_730),
-        ("video", video, 40, 2_950),
-        ("video", video, 6_000, 7_950),
+        ("audio", audio, 40, 2_890),
+        ("audio", audio, 1_500, 4_810),
+        ("video", video, 40, 3_030),
+        ("video", video, 6_000, 8_030),
     ];
     for (name, datagram, packets, most) in lines {
         // The list of streams has places for a power of two.

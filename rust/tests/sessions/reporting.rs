@@ -1,4 +1,5 @@
-//! The receiver reports that a session sends by itself: when, about which streams, and as which packet.
+//! The receiver reports that a session sends by itself: when, about which streams, and as which packet. Extended reports are off here;
+//! `extended.rs` has them.
 
 use crate::Fail;
 use crate::datagrams::*;
@@ -14,6 +15,7 @@ fn session(change: impl FnOnce(&mut SessionSettings, &mut FeedbackSettings)) -> 
     let mut settings = SessionSettings::live();
     settings.formats = vec![opus_format(), vp8_format()];
     let mut feedback = FeedbackSettings::live(OWN, b"me@host".to_vec());
+    feedback.extended = false;
     change(&mut settings, &mut feedback);
     settings.feedback = Some(feedback);
     Session::new(settings).expect("settings that can be met")

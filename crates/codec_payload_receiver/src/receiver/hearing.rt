@@ -5,6 +5,7 @@ ghost use Rattle.codec_payload_codec.specs.Depacketizers.{is_built_in_depacketiz
 ghost use Rattle.codec_payload_jitter.specs.OwnReceiving.{OwnStores};
 ghost use Rattle.codec_payload_rtp.specs.RtpValues.{packet_of};
 ghost use Rattle.codec_payload_datagrams.specs.Kinds.{Malformed, RtcpPacket, WithMedia, datagram_at, datagram_of, kind_for};
+ghost use Rattle.codec_payload_receiver.specs.Noting.{restart_if};
 ghost use Rattle.codec_payload_receiver.specs.Sessions.{Heard, is_suspect};
 ghost use Rattle.codec_payload_datagrams.specs.declared.kinds.Malformation.TheVariants as malformations;
 
@@ -136,21 +137,18 @@ impl<B: Depacketizer> Receiver<B> {
             return Err(ReceiveError::OutOfMemory);
         };
         let restarts = self.packets.counters().restarts;
+        let has_kept = self.packets.has_suspect();
         let Ok(taken) = self
             .stream
             .take(&mut self.packets, &mut self.seen, now, datagram)
         else {
             return Err(ReceiveError::OutOfMemory);
         };
-        settle_note(
-            &mut self.notes,
-            note,
-            taken.outcome,
-            self.packets.greatest(),
-        );
+        let found = found_by(taken.outcome, restarts, self.packets.counters().restarts);
+        let restart = restart_by(found, has_kept);
+        settle_note(&mut self.notes, note, taken.outcome, restart, &self.packets);
         self.ssrc = ssrc_after(self.ssrc, datagram);
         self.arrived = with_datagram(self.arrived, datagram);
-        let found = found_by(taken.outcome, restarts, self.packets.counters().restarts);
         observe(&mut self.statistics, now, datagram, found);
         self.choice.note(now, datagram);
         answer_for(datagram, taken)
@@ -166,5 +164,16 @@ fn found_by(outcome: Outcome, before: u64, after: u64) -> Found
     Found {
         has_restarted: after != before,
         is_suspect: matches!(outcome, Outcome::Suspect),
+    }
+}
+
+/// Returns whether a suspect packet was stored with a restart, if one was confirmed. `has_kept`: one was kept before.
+fn restart_by(found: Found, has_kept: bool) -> Option<bool>
+    ensures { result ≡ restart_if found.has_restarted has_kept }
+{
+    if found.has_restarted {
+        Some(has_kept)
+    } else {
+        None
     }
 }

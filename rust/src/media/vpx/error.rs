@@ -6,7 +6,7 @@ use core::fmt;
 
 /// Why bytes are not a frame of their format: the first fault in reading order.
 #[derive(Clone, Copy, Debug, PartialEq, Eq)]
-#[non_exhaustive]
+#[cfg_attr(not(feature = "exhaustive"), non_exhaustive)]
 pub enum MediaError {
     /// The bytes end before what the format says.
     MissingBytes,

@@ -103,7 +103,7 @@ pub struct RecordedSession {
 
 /// Why no run was made.
 #[derive(Clone, Copy, Debug, PartialEq, Eq)]
-#[non_exhaustive]
+#[cfg_attr(not(feature = "exhaustive"), non_exhaustive)]
 pub enum NewRunError {
     /// No session can meet the settings.
     Settings(SessionSettingsError),

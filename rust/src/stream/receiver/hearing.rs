@@ -106,21 +106,18 @@ impl<B: Depacketizer> Receiver<B> {
             return Err(ReceiveError::OutOfMemory);
         };
         let restarts = self.packets.counters().restarts;
+        let has_kept = self.packets.has_suspect();
         let Ok(taken) = self
             .stream
             .take(&mut self.packets, &mut self.seen, now, datagram)
         else {
             return Err(ReceiveError::OutOfMemory);
         };
-        settle_note(
-            &mut self.notes,
-            note,
-            taken.outcome,
-            self.packets.greatest(),
-        );
+        let found = found_by(taken.outcome, restarts, self.packets.counters().restarts);
+        let restart = restart_by(found, has_kept);
+        settle_note(&mut self.notes, note, taken.outcome, restart, &self.packets);
         self.ssrc = ssrc_after(self.ssrc, datagram);
         self.arrived = with_datagram(self.arrived, datagram);
-        let found = found_by(taken.outcome, restarts, self.packets.counters().restarts);
         observe(&mut self.statistics, now, datagram, found);
         self.choice.note(now, datagram);
         answer_for(datagram, taken)
@@ -133,5 +130,14 @@ fn found_by(outcome: Outcome, before: u64, after: u64) -> Found {
     Found {
         has_restarted: after != before,
         is_suspect: matches!(outcome, Outcome::Suspect),
+    }
+}
+
+/// Returns whether a suspect packet was stored with a restart, if one was confirmed. `has_kept`: one was kept before.
+fn restart_by(found: Found, has_kept: bool) -> Option<bool> {
+    if found.has_restarted {
+        Some(has_kept)
+    } else {
+        None
     }
 }

@@ -49,7 +49,7 @@ returns-clause-heard g c =
       reception = reception_after c.in-Ok.outcome s.packets after s.reception c.args.now.0 d;
       choice = record s.choice { latest = latest_after s.choice.latest c.args.now.0 (origin_of d) };
       seen = seen;
-      notes = notes_after s.notes s.stream d o after.numbering.greatest;
+      notes = notes_after s.notes s.stream d o s.packets after;
     } =
     ap (λ (x : Reception). record s { ssrc = ssrc_after s.ssrc d; packets = after; arrived = arrived_with s.arrived d; reception = x; choice = c.note_at.new.self; seen = seen }) (c.observe_media.ensures ∙ counts)
     ∙ ap (λ (x : Choosing). record s { ssrc = ssrc_after s.ssrc d; packets = after; arrived = arrived_with s.arrived d; reception = reception_after c.in-Ok.outcome s.packets after s.reception c.args.now.0 d; choice = x; seen = seen }) c.note_at.ensures
@@ -61,6 +61,6 @@ returns-clause-heard g c =
       choice = record s.choice { latest = latest_after s.choice.latest c.args.now.0 (origin_of d) };
       seen = seen;
       notes = x;
-    }) (none_noted c.self.inside.notes s.stream d o after.numbering.greatest (sym c.is_some.ensures ∙ c.if-is_some.false)) in
+    }) (none_noted c.self.inside.notes s.stream d o s.packets after (sym c.is_some.ensures ∙ c.if-is_some.false)) in
     let made : Heard c.args.now d s (Ok c.in-Ok.outcome) t = heard c.args.now d s t c.in-Ok.outcome true after seen (Ok c.in-Ok.outcome) c.in-Ok.ensures.ok refl left in
     subst (λ (x : Session). Heard c.args.now d x (Ok c.in-Ok.outcome) t) c.self.view_is made

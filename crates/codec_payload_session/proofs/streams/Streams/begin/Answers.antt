@@ -1,6 +1,9 @@
 use Rattle.std.proofs.Common.{◌≡◌, ◌∙◌, Bool, true, Ok, ap, inl, subst, sym}
-use Rattle.codec_payload_session.specs.Arrivals.{BeginsIf, has_place}
+use Rattle.codec_payload_session.specs.Arrivals.{BeginsIf, Port, has_place}
 use Rattle.codec_payload_session_stream.specs.declared.arrival.Arrival.{Arrival}
+use Rattle.codec_payload_session_stream.specs.Streams.{Takes}
+use Rattle.codec_payload_session_stream.specs.Trips.{with_round_trip}
+use Rattle.codec_payload_session_stream.specs.declared.stream.StreamState.{StreamState}
 use Rattle.codec_payload_session.proofs.streams.Streams.begin.Goals as goal
 
 pub returns : goal.returns
@@ -13,7 +16,9 @@ returns c =
       after = c.take-answer.new.self;
       told = c.take-answer.result;
       begins = c.in_ok-stream.ensures;
-      takes = c.take-answer.ensures;
+      takes =
+          subst (λ (p : Port). Takes c.args.now c.args.settings.now.probation c.args.datagram.now (with_round_trip p.exchange.round_trip c.in_ok-stream.stream) c.take-answer.result c.take-answer.new.self) c.self.view_is
+          (subst (λ (x : StreamState). Takes c.args.now c.args.settings.now.probation c.args.datagram.now x c.take-answer.result c.take-answer.new.self) c.tell_round_trip.ensures c.take-answer.ensures);
       received = sym c.is_no_memory.ensures ∙ c.if-is_no_memory.false;
       answers = ap (λ (a : Arrival). Ok a) c.arrival_of.ensures;
       left = c.in_ok-add.ensures.ok;

@@ -18,7 +18,7 @@ pub returns : goal.returns
 returns c =
     let ss : List StreamState = c.self.inside.list.items in
     let ts : List StreamState = c.leave_formats.new.streams in
-    let p : Port = record { streams = ss; finished = c.self.inside.finished; ended = c.self.inside.ended; last = c.self.inside.last } in
+    let p : Port = record { streams = ss; finished = c.self.inside.finished; ended = c.self.inside.ended; last = c.self.inside.last; exchange = c.self.inside.exchange } in
     let each : StayOrEnd c.args.formats.now c.args.at ss ts = subst (λ (l : List StreamState). StayOrEnd c.args.formats.now c.args.at l ts) c.deref_mut.ensures.value c.leave_formats.ensures in
     let long : length ts ≡ c.self.inside.list.len = length_stays c.args.formats.now c.args.at ss ts each ∙ sym c.self.inside.list.ok.0 in
     let written : List StreamState = (with_items c.self.inside.list ts).items in

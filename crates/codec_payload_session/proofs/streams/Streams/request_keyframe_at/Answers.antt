@@ -31,5 +31,5 @@ returns-clause-after c =
     let within : place < length ss = subst (λ (p : Port). place < length p.streams) (sym c.self.view_is) c.requires in
     let same : slice_set ss place c.request_keyframe.new.self ≡ asked_with (slice_get ss place) place ss =
     ap (λ (x : StreamState). slice_set ss place x) c.request_keyframe.ensures.after ∙ sym (asked_at place ss c.index_mut.result.now within c.index_mut.ensures.value) in
-    let after : List StreamState → Port = λ l. record { streams = l; finished = c.self.inside.finished; ended = c.self.inside.ended; last = c.self.inside.last } in
+    let after : List StreamState → Port = λ l. record { streams = l; finished = c.self.inside.finished; ended = c.self.inside.ended; last = c.self.inside.last; exchange = c.self.inside.exchange } in
     subst (λ (p : Port). after (slice_set ss place c.request_keyframe.new.self) ≡ asked_among (Some place) p) c.self.view_is (ap after same)

@@ -17,7 +17,7 @@ returns-then-holds c =
     let turn : Option Turn = turn_to c.step_excepted.result c.step_excepted.new.unit in
     let ss : List StreamState = c.self.inside.list.items in
     let ts : List StreamState = c.step_excepted.new.streams in
-    let p : Port = record { streams = ss; finished = c.self.inside.finished; ended = c.self.inside.ended; last = c.self.inside.last } in
+    let p : Port = record { streams = ss; finished = c.self.inside.finished; ended = c.self.inside.ended; last = c.self.inside.last; exchange = c.self.inside.exchange } in
     let is : c.deref_mut.result.now ≡ ss = c.deref_mut.ensures.value in
     let first : StepsFirst c.args.now c.args.idle_timeout ss turn ts = subst (λ (l : List StreamState). StepsFirst c.args.now c.args.idle_timeout l turn ts) is c.step_excepted.ensures.first in
     let long : length ts ≡ c.self.inside.list.len = steps_length c.args.now c.args.idle_timeout ss ts turn first ∙ sym c.self.inside.list.ok.0 in

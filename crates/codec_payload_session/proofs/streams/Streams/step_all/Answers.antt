@@ -17,7 +17,7 @@ returns-then-find c =
     let turn : Option Turn = turn_to c.step_due.result c.step_due.new.unit in
     let ss : List StreamState = c.self.inside.list.items in
     let ts : List StreamState = c.step_due.new.streams in
-    let p : Port = record { streams = ss; finished = c.self.inside.finished; ended = c.self.inside.ended; last = c.self.inside.last } in
+    let p : Port = record { streams = ss; finished = c.self.inside.finished; ended = c.self.inside.ended; last = c.self.inside.last; exchange = c.self.inside.exchange } in
     let is : c.deref_mut.result.now ≡ ss = c.deref_mut.ensures.value in
     let first : StepsFirst c.args.now c.args.idle_timeout ss turn ts = subst (λ (l : List StreamState). StepsFirst c.args.now c.args.idle_timeout l turn ts) is c.step_due.ensures.first in
     let long : length ts ≡ c.self.inside.list.len = steps_length c.args.now c.args.idle_timeout ss ts turn first ∙ sym c.self.inside.list.ok.0 in
@@ -31,7 +31,7 @@ returns-else-find c =
     let turn : Option Turn = turn_to c.step_first.result c.step_first.new.unit in
     let ss : List StreamState = c.self.inside.list.items in
     let ts : List StreamState = c.step_first.new.streams in
-    let p : Port = record { streams = ss; finished = c.self.inside.finished; ended = c.self.inside.ended; last = c.self.inside.last } in
+    let p : Port = record { streams = ss; finished = c.self.inside.finished; ended = c.self.inside.ended; last = c.self.inside.last; exchange = c.self.inside.exchange } in
     let is : c.deref_mut-else-find.result.now ≡ ss = c.deref_mut-else-find.ensures.value in
     let first : StepsFirst c.args.now c.args.idle_timeout ss turn ts = subst (λ (l : List StreamState). StepsFirst c.args.now c.args.idle_timeout l turn ts) is c.step_first.ensures in
     let long : length ts ≡ c.self.inside.list.len = steps_length c.args.now c.args.idle_timeout ss ts turn first ∙ sym c.self.inside.list.ok.0 in

@@ -1,0 +1,2 @@
+mod DepartureLemmas
+mod RunLemmas

@@ -1,0 +1,33 @@
+//! The round trip that reports measured for all streams of a session.
+
+ghost use Rattle.std.specs.Prelude.{◌≡◌};
+ghost use Rattle.codec_payload_session_stream.specs.Trips.{ReportedTripsCount, with_round_trip, with_round_trips};
+
+use crate::stream::StreamState;
+use codec_payload_session_requests::requests::set_reported;
+
+/// Proves that the round trip that reports measured counts for each stream that requests, whatever answers to requests came. Does
+/// nothing.
+pub fn reported_trips_count()
+    ensures { ReportedTripsCount }
+{}
+
+impl StreamState {
+    /// Sets the round trip that reports measured, in ticks. `None`: the answers to requests count. Waits follow it once a packet is
+    /// accepted.
+    pub fn tell_round_trip(&mut self, round_trip: Option<u64>)
+        ensures { self.new ≡ with_round_trip round_trip self.old }
+    {
+        self.quiet_until = 0;
+        set_reported(&mut self.feedback, round_trip);
+    }
+}
+
+/// Sets the round trip that reports measured for each stream.
+pub fn tell_all(streams: &mut [StreamState], round_trip: Option<u64>)
+    ensures { streams.new ≡ with_round_trips round_trip streams.old }
+{
+    for place in 0..streams.len() {
+        streams[place].tell_round_trip(round_trip);
+    }
+}
