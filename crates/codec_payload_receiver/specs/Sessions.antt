@@ -40,7 +40,7 @@ use Rattle.codec_payload_datagrams.specs.declared.kinds.Malformation.TheVariants
 use Rattle.codec_payload_datagrams.specs.declared.kinds.RedStream.{RedStream}
 use Rattle.codec_payload_receiver.specs.declared.receiver.Arrived.{Arrived}
 use Rattle.codec_payload_receiver.specs.declared.receiver.Counters.{Counters}
-use Rattle.codec_payload_receiver.specs.declared.receiver.LeftStream.{LeftStream}
+use Rattle.codec_payload_receiver.specs.declared.receiver.leaving.LeftStream.{LeftStream}
 use Rattle.codec_payload_receiver.specs.declared.receiver.ReceiveError.{ReceiveError}
 use Rattle.codec_payload_receiver.specs.declared.receiver.ReceiveError.TheVariants as errors
 use Rattle.codec_payload_receiver.specs.declared.receiver.RedSettings.{RedSettings}

@@ -7,11 +7,12 @@ ghost use Rattle.codec_payload_jitter.specs.Missing.{missing_numbers};
 ghost use Rattle.codec_payload_jitter.specs.OwnReceiving.{OwnStores};
 ghost use Rattle.codec_payload_jitter.specs.Receiving.{deadline_of, is_idle, is_pressed};
 ghost use Rattle.codec_payload_receiver.specs.Bounds.{counters_with};
-ghost use Rattle.codec_payload_datagrams.specs.Kinds.{datagram_at, datagram_of, retransmitted_under, takes_memory};
+ghost use Rattle.codec_payload_datagrams.specs.Kinds.{datagram_at, datagram_of, takes_memory};
 ghost use Rattle.codec_payload_numbers.specs.Reports.{report_of, reported};
-ghost use Rattle.codec_payload_receiver.specs.Sessions.{Chooses, Finishes, Heard, IsAccountedFor, Keeps, ReceivesBy, ReceivesBytes, SettlesAnew, SettlesOn, arrived_with, come_back, first_waiting, gone_over_to, is_open, nothing_arrived, observed_in, restarted, session_by, session_with, ssrc_after, turned_away, verdict_in};
+ghost use Rattle.codec_payload_receiver.specs.Sessions.{Chooses, Finishes, Heard, IsAccountedFor, Keeps, ReceivesBy, ReceivesBytes, SettlesOn, arrived_with, first_waiting, is_open, nothing_arrived, observed_in, session_by, session_with, ssrc_after, turned_away, verdict_in};
 
 mod hearing;
+mod leaving;
 mod noting;
 mod pops;
 mod unit_pops;
@@ -21,7 +22,7 @@ use crate::bound::UnitBound;
 use crate::checks::{packets_at_once, red_of, retransmission_fits};
 use crate::datagram::StreamKinds;
 use crate::gated::gate_for;
-use crate::notes::{StreamNotes, notes_for, put_suspect, take_suspect};
+use crate::notes::{StreamNotes, notes_for};
 use crate::reports::{ReceptionReport, ReceptionStatistics};
 use codec_payload_base::error::PacketError;
 use codec_payload_base::wire::{Frequency, Ticks};
@@ -31,14 +32,11 @@ use codec_payload_datagrams::choice::{Choice, Origin, Verdict};
 pub use codec_payload_datagrams::kinds::Retransmission;
 use codec_payload_datagrams::kinds::{Datagram, RedStream};
 use codec_payload_datagrams::parsed::ParsedDatagram;
-use codec_payload_jitter::jitter::{
-    BeforeRestart, JitterBuffer, Outcome, PacketCounters, WaitLimits,
-};
+use codec_payload_jitter::jitter::{JitterBuffer, Outcome, PacketCounters, WaitLimits};
 use codec_payload_jitter::missing::MissingNumbers;
 use codec_payload_keyframes::unit_gate::{FromKeyframe, UnitGate};
 use codec_payload_numbers::numbers::{SequenceNumbers, WindowError};
 use codec_payload_numbers::seen_times::LazySeenTimes;
-use codec_payload_references::note::FrameNote;
 use codec_payload_rtp::rtp::RtpError;
 use codec_payload_rtp::times::RtpTimes;
 use codec_payload_rtp::values::ExtensionIds;
@@ -186,17 +184,6 @@ pub(crate) struct Arrived {
     rtcp: u64,
     malformed: u64,
     other_streams: u64,
-}
-
-/// What a receiver knew of the sender that it has left.
-#[derive(Debug, Drop)]
-struct LeftStream {
-    ssrc: Option<u32>,
-    statistics: ReceptionStatistics,
-    seen: LazySeenTimes,
-    /// The note of the suspect packet, with its number.
-    suspect: Option<(u16, FrameNote)>,
-    before: BeforeRestart,
 }
 
 /// Receives the datagrams of one stream in any order, and returns units in order.
@@ -492,23 +479,6 @@ impl<B: Depacketizer> Receiver<B> {
         self.hear_rarely(now, datagram)
     }
 
-    /// Leaves the stream, if there is one, and chooses the stream of the packet that waits at this place. Returns false if memory runs
-    /// out; nothing has changed then.
-    fn settle_anew(&mut self, place: usize) -> bool
-        ensures settled { SettlesAnew (slice_get self.old.choice.candidates place) result self.old self.new }
-        ensures own { is_built_in_depacketizer self.old.packets.buffer.depacketizer ≡ false → OwnStores B.is_head B.is_tail self.old.packets.buffer self.new.packets.buffer }
-    {
-        if self.ssrc.is_none() {
-            return self.settle_on(place);
-        }
-        let left = self.leave();
-        if self.settle_on(place) {
-            return true;
-        }
-        self.come_back(left);
-        false
-    }
-
     /// Chooses the stream of the first waiting packet, if no SSRC was chosen so far. Returns false if memory runs out.
     fn settle_first(&mut self) -> bool
         ensures settled { SettlesOn (first_waiting self.old) result self.old self.new }
@@ -642,83 +612,12 @@ impl<B: Depacketizer> Receiver<B> {
         Ok(())
     }
 
-    /// Announces that the sender has restarted. The next packet of the stream gets a number above all earlier numbers, with
-    /// media or without, and pops wait again. Held packets stay, and are released before the packets after the restart. A
-    /// suspect packet is dropped, and stays counted as suspect. Reports start again. A keyframe is needed from now on
-    /// ([`Receiver::wants_keyframe`]).
-    ///
-    /// If the settings name no SSRC, two packets choose the stream again; packets that wait belong to other streams.
-    pub fn restart(&mut self)
-        ensures { self.new ≡ restarted self.old.named self.old }
-    {
-        let named = self.named;
-        self.begin_anew(named);
-    }
-
-    /// Does the same as [`Receiver::restart`] if you know the new SSRC. From then on packets of the earlier SSRC belong to
-    /// another stream. `retransmission` is the new SSRC of retransmissions; with `None` it stays. Without `retransmission` in
-    /// the settings the argument is ignored.
-    pub fn restart_as(&mut self, ssrc: u32, retransmission: Option<u32>)
-        ensures { self.new ≡ restarted (Option.Some ssrc) (record self.old { stream = retransmitted_under retransmission self.old.stream; named = Option.Some ssrc }) }
-    {
-        self.stream.retransmit_under(retransmission);
-        self.named = Some(ssrc);
-        self.begin_anew(Some(ssrc));
-    }
-
     /// Replaces the SSRC and payload type of retransmissions; `None`: no stream of retransmissions. No packet has a payload type
     /// above 127.
     pub fn set_retransmission(&mut self, retransmission: Option<Retransmission>)
         ensures { self.new ≡ record self.old { stream = record self.old.stream { retransmission = retransmission } } }
     {
         self.stream.set_retransmission(retransmission);
-    }
-
-    /// Restarts the stream, with this SSRC if it is known.
-    fn begin_anew(&mut self, ssrc: Option<u32>)
-        ensures { self.new ≡ restarted ssrc self.old }
-    {
-        let waiting = self.choice.candidates.len();
-        self.turn_away(waiting);
-        self.choice.forget();
-        self.gates.skip();
-        self.go_over_to(ssrc);
-    }
-
-    /// Begins the numbers of another sender, with this SSRC if it is known.
-    fn go_over_to(&mut self, ssrc: Option<u32>)
-        ensures { self.new ≡ gone_over_to ssrc self.old }
-    {
-        let _ = self.leave();
-        self.ssrc = ssrc;
-    }
-
-    /// Begins the numbers of another sender whose SSRC is not known, and returns what [`Receiver::come_back`] needs to undo it.
-    fn leave(&mut self) -> LeftStream
-        ensures left { self.new ≡ gone_over_to Option.None self.old }
-        ensures back { come_back result self.new ≡ self.old }
-    {
-        let left = LeftStream {
-            ssrc: self.ssrc,
-            statistics: self.statistics,
-            seen: mem::replace(&mut self.seen, LazySeenTimes::none()),
-            suspect: take_suspect(&mut self.notes),
-            before: self.packets.restart_for_now(),
-        };
-        self.ssrc = None;
-        self.statistics = self.statistics.anew();
-        left
-    }
-
-    /// Goes back to the stream that was left.
-    fn come_back(&mut self, left: LeftStream)
-        ensures { self.new ≡ come_back left self.old }
-    {
-        self.ssrc = left.ssrc;
-        self.statistics = left.statistics;
-        self.seen = left.seen;
-        put_suspect(&mut self.notes, left.suspect);
-        self.packets.take_back(left.before);
     }
 
     /// Writes the same numbers as [`Receiver::missing`] to `numbers`, in place of what it had, from a list that is kept from call to

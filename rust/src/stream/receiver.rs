@@ -6,6 +6,7 @@ use crate::memory::AllocError;
 use alloc::vec::Vec;
 
 mod hearing;
+mod leaving;
 mod noting;
 mod pops;
 mod unit_pops;
@@ -13,10 +14,7 @@ mod unit_pops;
 use crate::buffer::DepacketizingBuffer;
 use crate::codec::{CodecDepacketizer, Depacketizer, NoBox};
 use crate::error::PacketError;
-use crate::frame_notes::note::FrameNote;
-use crate::jitter::jitter_buffer::{
-    BeforeRestart, JitterBuffer, Outcome, PacketCounters, WaitLimits,
-};
+use crate::jitter::jitter_buffer::{JitterBuffer, Outcome, PacketCounters, WaitLimits};
 use crate::jitter::missing::MissingNumbers;
 use crate::jitter::numbers::{SequenceNumbers, WindowError};
 use crate::keyframes::unit_gate::{FromKeyframe, UnitGate};
@@ -31,7 +29,7 @@ use crate::stream::datagram::StreamKinds;
 use crate::stream::gated::gate_for;
 pub use crate::stream::kinds::Retransmission;
 use crate::stream::kinds::{Datagram, RedStream};
-use crate::stream::notes::{StreamNotes, notes_for, put_suspect, take_suspect};
+use crate::stream::notes::{StreamNotes, notes_for};
 use crate::stream::parsed::ParsedDatagram;
 use crate::stream::reports::{ReceptionReport, ReceptionStatistics};
 use crate::stream::seen_times::LazySeenTimes;
@@ -213,17 +211,6 @@ pub(crate) struct Arrived {
     rtcp: u64,
     malformed: u64,
     other_streams: u64,
-}
-
-/// What a receiver knew of the sender that it has left.
-#[derive(Debug)]
-struct LeftStream {
-    ssrc: Option<u32>,
-    statistics: ReceptionStatistics,
-    seen: LazySeenTimes,
-    /// The note of the suspect packet, with its number.
-    suspect: Option<(u16, FrameNote)>,
-    before: BeforeRestart,
 }
 
 /// Receives the datagrams of one stream in any order, and returns units in order.
@@ -456,20 +443,6 @@ impl<B: Depacketizer> Receiver<B> {
         self.hear_rarely(now, datagram)
     }
 
-    /// Leaves the stream, if there is one, and chooses the stream of the packet that waits at this place. Returns false if memory runs
-    /// out; nothing has changed then.
-    fn settle_anew(&mut self, place: usize) -> bool {
-        if self.ssrc.is_none() {
-            return self.settle_on(place);
-        }
-        let left = self.leave();
-        if self.settle_on(place) {
-            return true;
-        }
-        self.come_back(left);
-        false
-    }
-
     /// Chooses the stream of the first waiting packet, if no SSRC was chosen so far. Returns false if memory runs out.
     fn settle_first(&mut self) -> bool {
         match self.ssrc {
@@ -572,68 +545,10 @@ impl<B: Depacketizer> Receiver<B> {
         Ok(())
     }
 
-    /// Announces that the sender has restarted. The next packet of the stream gets a number above all earlier numbers, with
-    /// media or without, and pops wait again. Held packets stay, and are released before the packets after the restart. A
-    /// suspect packet is dropped, and stays counted as suspect. Reports start again. A keyframe is needed from now on
-    /// ([`Receiver::wants_keyframe`]).
-    ///
-    /// If the settings name no SSRC, two packets choose the stream again; packets that wait belong to other streams.
-    pub fn restart(&mut self) {
-        let named = self.named;
-        self.begin_anew(named);
-    }
-
-    /// Does the same as [`Receiver::restart`] if you know the new SSRC. From then on packets of the earlier SSRC belong to
-    /// another stream. `retransmission` is the new SSRC of retransmissions; with `None` it stays. Without `retransmission` in
-    /// the settings the argument is ignored.
-    pub fn restart_as(&mut self, ssrc: u32, retransmission: Option<u32>) {
-        self.stream.retransmit_under(retransmission);
-        self.named = Some(ssrc);
-        self.begin_anew(Some(ssrc));
-    }
-
     /// Replaces the SSRC and payload type of retransmissions; `None`: no stream of retransmissions. No packet has a payload type
     /// above 127.
     pub fn set_retransmission(&mut self, retransmission: Option<Retransmission>) {
         self.stream.set_retransmission(retransmission);
-    }
-
-    /// Restarts the stream, with this SSRC if it is known.
-    fn begin_anew(&mut self, ssrc: Option<u32>) {
-        let waiting = self.choice.candidates.len();
-        self.turn_away(waiting);
-        self.choice.forget();
-        self.gates.skip();
-        self.go_over_to(ssrc);
-    }
-
-    /// Begins the numbers of another sender, with this SSRC if it is known.
-    fn go_over_to(&mut self, ssrc: Option<u32>) {
-        let _ = self.leave();
-        self.ssrc = ssrc;
-    }
-
-    /// Begins the numbers of another sender whose SSRC is not known, and returns what [`Receiver::come_back`] needs to undo it.
-    fn leave(&mut self) -> LeftStream {
-        let left = LeftStream {
-            ssrc: self.ssrc,
-            statistics: self.statistics,
-            seen: mem::replace(&mut self.seen, LazySeenTimes::none()),
-            suspect: take_suspect(&mut self.notes),
-            before: self.packets.restart_for_now(),
-        };
-        self.ssrc = None;
-        self.statistics = self.statistics.anew();
-        left
-    }
-
-    /// Goes back to the stream that was left.
-    fn come_back(&mut self, left: LeftStream) {
-        self.ssrc = left.ssrc;
-        self.statistics = left.statistics;
-        self.seen = left.seen;
-        put_suspect(&mut self.notes, left.suspect);
-        self.packets.take_back(left.before);
     }
 
     /// Writes the same numbers as [`Receiver::missing`] to `numbers`, in place of what it had, from a list that is kept from call to

@@ -25,8 +25,8 @@ impl<B: Depacketizer> Receiver<B> {
         self.packets.note_no_media(first, end)
     }
 
-    /// Returns the extended number of a packet of the stream that was received last: the one nearest to the highest number so far, with
-    /// these low 16 bits, half of the range ahead.
+    /// Returns the extended number of the packet of the stream whose sequence number is `low`: at most 32,768 above or 32,767 below the
+    /// highest number received so far. Before the first packet it is `low`.
     pub fn extended_number(&self, low: u16) -> u64 {
         near(self.packets.greatest(), low)
     }
