@@ -10,3 +10,4 @@ pub mod ReachedLemmas
 pub mod RunLemmas
 pub mod StreamLemmas
 mod TripLemmas
+pub mod WaitRangeLemmas

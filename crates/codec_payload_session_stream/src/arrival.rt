@@ -1,7 +1,9 @@
 //! What a session does with a datagram, and what a stream answers to it.
 
 ghost use Rattle.std.specs.Prelude.{◌≡◌};
+ghost use Rattle.codec_payload_rtp.specs.RtpReading.{rtp_at};
 ghost use Rattle.codec_payload_session_stream.specs.Arrivals.{arrival_of};
+ghost use Rattle.codec_payload_session_stream.specs.Streams.{payload_size};
 ghost use Rattle.codec_payload_session_stream.specs.Waking.{FeedsOne};
 
 use crate::stream::{StreamState, is_no_memory};
@@ -84,5 +86,16 @@ pub fn arrival_of(ssrc: u32, payload_type: u8, answer: Result<Outcome, ReceiveEr
             payload_type,
             fault,
         },
+    }
+}
+
+/// Returns the number of bytes of payload of an RTP packet, without padding. 0: the datagram is no packet.
+#[inline(always)]
+pub(crate) fn size_of(datagram: &ParsedDatagram<'_>) -> u64
+    ensures { result ≡ payload_size (rtp_at datagram.now) }
+{
+    match datagram.packet() {
+        Ok(packet) => packet.payload.len() as u64,
+        Err(_) => 0,
     }
 }

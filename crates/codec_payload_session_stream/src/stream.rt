@@ -15,6 +15,7 @@ ghost use Rattle.codec_payload_session_stream.specs.Units.{step_to};
 ghost use Rattle.codec_payload_session_stream.specs.Waking.{WakesAt, or_max};
 ghost use Rattle.codec_payload_session_stream.specs.declared.stream.Step.TheVariants as steps;
 
+use crate::arrival::size_of;
 use crate::changes::{are_alike, takes_turns};
 use crate::reports::SenderClock;
 use crate::times::{LAST_KEY, earlier, key_of, or_max, or_none, time_of};
@@ -695,17 +696,6 @@ impl StreamState {
             requests: request_counts(&self.feedback),
             sender_clock: self.sender_clock,
         }
-    }
-}
-
-/// Returns the number of bytes of payload of an RTP packet, without padding. 0: the datagram is no packet.
-#[inline(always)]
-fn size_of(datagram: &ParsedDatagram<'_>) -> u64
-    ensures { result ≡ payload_size (rtp_at datagram.now) }
-{
-    match datagram.packet() {
-        Ok(packet) => packet.payload.len() as u64,
-        Err(_) => 0,
     }
 }
 

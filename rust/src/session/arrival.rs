@@ -85,3 +85,12 @@ pub(crate) fn arrival_of(
         },
     }
 }
+
+/// Returns the number of bytes of payload of an RTP packet, without padding. 0: the datagram is no packet.
+#[inline(always)]
+pub(crate) fn size_of(datagram: &ParsedDatagram<'_>) -> u64 {
+    match datagram.packet() {
+        Ok(packet) => packet.payload.len() as u64,
+        Err(_) => 0,
+    }
+}

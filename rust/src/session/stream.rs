@@ -9,6 +9,7 @@ use crate::feedback::requests::RequestCounts;
 use crate::jitter::jitter_buffer::WaitLimits;
 use crate::jitter::outcome::Outcome;
 use crate::memory::{AllocError, One};
+use crate::session::arrival::size_of;
 use crate::session::changes::{are_alike, takes_turns};
 use crate::session::formats::{Format, SessionSettings, SsrcPair, retransmission_for};
 use crate::session::late::{follow, late_for, limit_by};
@@ -581,15 +582,6 @@ impl StreamState {
             requests: request_counts(&self.feedback),
             sender_clock: self.sender_clock,
         }
-    }
-}
-
-/// Returns the number of bytes of payload of an RTP packet, without padding. 0: the datagram is no packet.
-#[inline(always)]
-fn size_of(datagram: &ParsedDatagram<'_>) -> u64 {
-    match datagram.packet() {
-        Ok(packet) => packet.payload.len() as u64,
-        Err(_) => 0,
     }
 }
 
