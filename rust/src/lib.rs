@@ -192,6 +192,8 @@ pub mod sender;
 pub mod session;
 #[doc(hidden)]
 pub mod stream;
+#[doc(hidden)]
+pub mod stream_edges;
 mod syntax;
 #[doc(hidden)]
 pub mod tele;

@@ -275,9 +275,13 @@ pub mod bandwidth {
 pub mod edges {
     #[doc(inline)]
     pub use crate::edges::{Between, Edge, Gaps, IdWidth, PictureEdges};
+    #[doc(inline)]
+    pub use crate::stream_edges::{EdgeRules, StreamEdges};
 
     #[doc(hidden)]
     pub use crate::edges::*;
+    #[doc(hidden)]
+    pub use crate::stream_edges::*;
 }
 
 /// Packetizers and depacketizers of your own, beside those of the library.
