@@ -216,7 +216,7 @@ LAYERS = (
     (("library for C", "c/c_receiving c_packets/handle"), ("packets and frames, in Rattle", "core"), ("theorems on whole runs", "server_runs session_runs/timely_runs forward_runs/datagram_runs buffer_runs"),
      ("tests", "codec_tests run_tests/datagram_tests"), ("a program", "vectors/lines")),
     (("all streams of a port", "session session_stream/session_requests session_formats"),),
-    (("receiving", "receiver datagrams jitter/numbers keyframes references/buffer contiguity metadata/queue index"),
+    (("receiving", "receiver stream_edges/datagrams jitter numbers/keyframes references buffer/contiguity metadata/queue index"),
      ("feedback", "feedback feedback_requests feedback_transport/feedback_wait feedback_congestion/feedback_ccfb feedback_xr"),
      ("sending, and what viewers see", "payloader sending sending_red/sending_history sending_forward/feedback_freezes bandwidth/bandwidth_pacer bandwidth_layers/bandwidth_estimate/bandwidth_estimator bandwidth_path")),
     (("payload formats", "codec audio vp8 vp9 av1"), ("repetition", "red fec"), ("what frames say", "media vpx layers edges/descriptor syntax"), ("packets", "rtp rtcp")),

@@ -26,6 +26,7 @@
 //! | [`bandwidth`] | when packets leave for a viewer, how much may be retransmitted, which layers it gets, and the rate of its path |
 //! | [`layers`] | whether a keyframe begins in a payload, and its temporal layer |
 //! | [`edges`] | where pictures of video begin and end, and the numbers between them, which carry no media |
+//! | [`stream_edges`] | the same for a receiver: lost padding is neither requested nor waited for |
 //! | [`media`] | what frames say: keyframe, size, duration; OBUs, superframes, `av1C`, the Opus header |
 //! | [`codec`], [`interface`], [`buffer`], [`error`] | the payload layer: packetizers, depacketizers, what they say of a packet, the buffer, and their faults |
 //! | [`red`], [`vp8`], [`vp9`], [`av1`], [`amr_wb`], [`tele`], [`plain`] | one format each |
@@ -275,11 +276,16 @@ pub mod bandwidth {
 pub mod edges {
     #[doc(inline)]
     pub use crate::edges::{Between, Edge, Gaps, IdWidth, PictureEdges};
-    #[doc(inline)]
-    pub use crate::stream_edges::{EdgeRules, StreamEdges};
 
     #[doc(hidden)]
     pub use crate::edges::*;
+}
+
+/// The same for the stream of a [`Receiver`](crate::Receiver), one call after each datagram.
+pub mod stream_edges {
+    #[doc(inline)]
+    pub use crate::stream_edges::{EdgeRules, StreamEdges};
+
     #[doc(hidden)]
     pub use crate::stream_edges::*;
 }

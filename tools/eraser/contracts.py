@@ -172,7 +172,7 @@ def drop_theorems(f):
             j = i + 4
             while f.ts[j].kind == "clause":
                 j += 1
-            if plain(f.ts[j:j + 2]) == "{ }":
+            if calls_theorems_alone(f.ts, j):
                 names.append(f.ts[i + 1].text)
                 while f.ts[i + 4].kind == "clause":
                     del f.ts[i + 4]
@@ -180,6 +180,14 @@ def drop_theorems(f):
                 continue
         i += 1
     return names
+
+
+def calls_theorems_alone(ts, i):
+    """Whether the body that begins here is empty, or calls functions without arguments alone: a theorem that follows from others."""
+    i += 1
+    while ts[i].kind == "word" and plain(ts[i + 1:i + 4]) == "( ) ;":
+        i += 4
+    return ts[i].text == "}"
 
 
 def refuse_leftovers(f):

@@ -1,0 +1,3 @@
+pub mod GapLemmas
+pub mod RangeLemmas
+pub mod RunLemmas

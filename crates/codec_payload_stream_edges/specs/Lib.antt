@@ -1,2 +1,3 @@
 pub mod Brought
 pub mod Following
+pub mod Runs

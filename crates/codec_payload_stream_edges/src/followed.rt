@@ -1,7 +1,7 @@
 //! The edges of one sender's pictures, and what they say to a receiver.
 
 ghost use Rattle.std.specs.Prelude.{◌≡◌, ◌<◌, IfSome};
-ghost use Rattle.codec_payload_stream_edges.specs.Following.{HearsEdge, NotesGap, begun, checked_for, is_of_sender, of_sender};
+ghost use Rattle.codec_payload_stream_edges.specs.Following.{HearsEdge, NotesGap, NotesLater, begun, checked_for, is_of_sender, of_sender};
 
 use codec_payload_codec::codec::Depacketizer;
 use codec_payload_edges::edge::Edge;
@@ -68,15 +68,38 @@ impl Followed {
         ensures heard { HearsEdge number edge (of_sender sender self.old) receiver.old.packets result self.new receiver.new.packets }
         ensures beside { receiver.new ≡ record receiver.old { packets = receiver.new.packets } }
     {
+        self.go_over_to(sender);
+        let gaps = self.pictures.hear(number, edge);
+        let first = self.note(gaps.before, receiver);
+        self.note_later(first, gaps.after, receiver)
+    }
+
+    /// Forgets the pictures of another sender.
+    fn go_over_to(&mut self, sender: SenderMark)
+        ensures { self.new ≡ of_sender sender self.old }
+    {
         if !self.is_of(sender) {
             *self = Followed::begin(sender);
         }
-        let gaps = self.pictures.hear(number, edge);
-        self.note(gaps.before, receiver)?;
+    }
+
+    /// Passes the numbers behind a packet to the receiver. `first` is the answer for the numbers before it: if memory ran out, or if the
+    /// sender does not keep the rule, none are passed.
+    fn note_later<B: Depacketizer>(
+        &mut self,
+        first: Result<(), AllocError>,
+        range: Option<Between>,
+        receiver: &mut Receiver<B>,
+    ) -> Result<(), AllocError>
+        requires { IfSome range (λ r. r.after < r.before) }
+        ensures noted { NotesLater range first self.old receiver.old.packets result self.new receiver.new.packets }
+        ensures beside { receiver.new ≡ record receiver.old { packets = receiver.new.packets } }
+    {
+        first?;
         if !self.pictures.is_trusted() {
             return Ok(());
         }
-        self.note(gaps.after, receiver)
+        self.note(range, receiver)
     }
 
     /// Passes the numbers of a range to the receiver. If a packet of them is held, the sender does not keep the rule.

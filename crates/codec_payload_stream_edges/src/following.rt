@@ -2,7 +2,7 @@
 
 ghost use Rattle.std.specs.Prelude.{◌≡◌, Option};
 ghost use Rattle.std.specs.Option.{option_map};
-ghost use Rattle.codec_payload_stream_edges.specs.Following.{Begins, Follows, FollowsFor, FollowsMedia, HearsFor, checked_for, has_come, is_followed, is_stored, is_trusted};
+ghost use Rattle.codec_payload_stream_edges.specs.Following.{Follows, FollowsMedia, HearsFor, checked_for, has_come, is_stored, is_trusted};
 
 use crate::followed::{Followed, SenderMark};
 use crate::rules::EdgeRules;

@@ -5,3 +5,4 @@
 mod followed;
 pub mod following;
 pub mod rules;
+pub mod theorems;

@@ -100,7 +100,11 @@ impl EdgeRules {
     }
 
     /// Returns the packet with media that a datagram brings to the stream with this SSRC.
-    pub(crate) fn brought<'a>(&self, ssrc: u32, datagram: &ParsedDatagram<'a>) -> Option<Brought<'a>>
+    pub(crate) fn brought<'a>(
+        &self,
+        ssrc: u32,
+        datagram: &ParsedDatagram<'a>,
+    ) -> Option<Brought<'a>>
         ensures { option_map brought_of result ≡ brought_at self.now ssrc datagram.now }
     {
         match datagram.packet() {
@@ -133,7 +137,11 @@ impl EdgeRules {
         ensures { result ≡ at_edge (edge_of self.now (brought_of packet.now)) }
     {
         let edge = self.edge_of(packet)?;
-        if edge.begins || edge.ends { Some(edge) } else { None }
+        if edge.begins || edge.ends {
+            Some(edge)
+        } else {
+            None
+        }
     }
 
     /// Returns what a packet says of its picture.

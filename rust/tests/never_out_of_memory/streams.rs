@@ -9,9 +9,10 @@ use codec_payload::red_writer::RedWriter;
 use codec_payload::requests::NackSettings;
 use codec_payload::rtp::RtpPacket;
 use codec_payload::stream::ParsedDatagram;
+use codec_payload::stream_edges::{EdgeRules, StreamEdges};
 use codec_payload::*;
 
-pub const CALLS: [Call; 13] = [
+pub const CALLS: [Call; 14] = [
     Call(
         &["Sender::new", "Sender::send", "Sender::set_format"],
         sender,
@@ -47,6 +48,7 @@ pub const CALLS: [Call; 13] = [
         ],
         packets_of_any_kind,
     ),
+    Call(&["StreamEdges::follow"], pictures_with_gaps),
     Call(
         &[
             "Receiver::receive_any",
@@ -291,6 +293,22 @@ fn packets_of_any_kind(size: usize) {
     made(receiver.finish());
     while let Some(popped) = receiver.pop_unit(Ticks(9), &mut unit) {
         made(popped);
+    }
+}
+
+/// Pictures of one packet, with gaps between them.
+fn pictures_with_gaps(size: usize) {
+    let mut receiver = receiver(Codec::Vp8, size);
+    let settings = ReceiverSettings::for_stream(OPUS, Codec::Vp8, Frequency::NINETY_KHZ);
+    let rules = EdgeRules::of(Codec::Vp8, &settings);
+    let mut edges = StreamEdges::new();
+    for id in 0..size.min(3_000) as u16 {
+        let payload = [0x90, 0x80, 0x80 | (id >> 8) as u8, id as u8, 0x11, 0];
+        let bytes = packet(OPUS, 7, 10 * id, u32::from(id) * 3_000, &payload);
+        let datagram = ParsedDatagram::parse(&bytes);
+        let answer = receiver.receive_parsed(Ticks(0), &datagram);
+        made(edges.follow(&rules, &mut receiver, &datagram, &answer));
+        let _ = told(answer);
     }
 }
 
