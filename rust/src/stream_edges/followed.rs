@@ -56,15 +56,32 @@ impl Followed {
         edge: Edge,
         receiver: &mut Receiver<B>,
     ) -> Result<(), AllocError> {
+        self.go_over_to(sender);
+        let gaps = self.pictures.hear(number, edge);
+        let first = self.note(gaps.before, receiver);
+        self.note_later(first, gaps.after, receiver)
+    }
+
+    /// Forgets the pictures of another sender.
+    fn go_over_to(&mut self, sender: SenderMark) {
         if !self.is_of(sender) {
             *self = Followed::begin(sender);
         }
-        let gaps = self.pictures.hear(number, edge);
-        self.note(gaps.before, receiver)?;
+    }
+
+    /// Passes the numbers behind a packet to the receiver. `first` is the answer for the numbers before it: if memory ran out, or if the
+    /// sender does not keep the rule, none are passed.
+    fn note_later<B: Depacketizer>(
+        &mut self,
+        first: Result<(), AllocError>,
+        range: Option<Between>,
+        receiver: &mut Receiver<B>,
+    ) -> Result<(), AllocError> {
+        first?;
         if !self.pictures.is_trusted() {
             return Ok(());
         }
-        self.note(gaps.after, receiver)
+        self.note(range, receiver)
     }
 
     /// Passes the numbers of a range to the receiver. If a packet of them is held, the sender does not keep the rule.
