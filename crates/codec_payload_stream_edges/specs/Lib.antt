@@ -1,3 +1,5 @@
+pub mod Agreement
 pub mod Brought
 pub mod Following
+pub mod OwnRuns
 pub mod Runs

@@ -200,7 +200,7 @@ fn type_of_retransmission(retransmission: Option<Retransmission>) -> Option<u8>
 
 /// Returns the only block of a RED payload (RFC 2198, section 3), if it has this payload type: F and type(7), then the block. `None`: F
 /// is set, since there are more blocks, or the type is another one.
-fn lone_block<'a>(payload_type: u8, payload: &'a [u8]) -> Option<&'a [u8]>
+fn lone_block(payload_type: u8, payload: &[u8]) -> Option<&[u8]>
     ensures { option_map (λ b. b.now) result ≡ lone_block payload_type payload.now }
 {
     match payload {

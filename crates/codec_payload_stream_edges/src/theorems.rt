@@ -1,21 +1,42 @@
-//! What is proved of the numbers that are noted. This function exists for what it proves; it does nothing.
+//! What is proved of the packets that are followed, and of the numbers that are noted. These functions exist for what they prove; they do
+//! nothing.
 
+ghost use Rattle.codec_payload_stream_edges.specs.Agreement.{FollowsWhatIsStored};
+ghost use Rattle.codec_payload_stream_edges.specs.OwnRuns.{NoteNoneOfVp8, NoteNoneOfVp9};
 ghost use Rattle.codec_payload_stream_edges.specs.Runs.{NoteBetweenPictures, NoteNoMedia};
 
-use codec_payload_edges::theorems::between_pictures_is_no_media;
+use codec_payload_edges::theorems::{between_pictures_is_no_media, packetizers_send_in_order};
 
 /// Proves for each run of calls of [`StreamEdges::follow`] and [`StreamEdges::forget`], whatever the receiver does between them: a number
 /// that is noted lies between two packets that were stored, one of which ends a picture, while the other begins the next one, and no
 /// packet with the number was stored. If the sender sends its pictures in order, and gives them ids that rise, the number was not sent as
-/// media, whatever is lost, late or repeated. The library's own packetizers are such senders
-/// ([`packetizers_send_in_order`]).
+/// media, whatever is lost, late or repeated.
 ///
 /// [`StreamEdges::follow`]: crate::following::StreamEdges::follow
 /// [`StreamEdges::forget`]: crate::following::StreamEdges::forget
-/// [`packetizers_send_in_order`]: codec_payload_edges::theorems::packetizers_send_in_order
 pub fn noted_numbers_carry_no_media()
     ensures between { NoteBetweenPictures }
     ensures no_media { NoteNoMedia }
 {
     between_pictures_is_no_media();
+}
+
+/// Proves that the packet that is followed is the one that the receiver stores: it has the same number, header extension and payload, for
+/// any bytes, if the rules have the payload types of the receiver's settings, as those of [`EdgeRules::of`] have, and the types of
+/// retransmissions differ from the others.
+///
+/// [`EdgeRules::of`]: crate::rules::EdgeRules::of
+pub fn followed_packets_are_the_stored_ones()
+    ensures { FollowsWhatIsStored }
+{}
+
+/// Proves the same for the library's own packetizers of VP8 and VP9 with picture ids, for any frames, MTUs and faults: no number of one of
+/// their payloads is noted, if the packets that were stored are such payloads, under consecutive numbers, and the last payload of each
+/// frame has the marker.
+pub fn media_of_packetizers_is_not_noted()
+    ensures vp8 { NoteNoneOfVp8 }
+    ensures vp9 { NoteNoneOfVp9 }
+{
+    between_pictures_is_no_media();
+    packetizers_send_in_order();
 }
