@@ -57,7 +57,7 @@ pub struct Leaving {
     pub number: u16,
 }
 
-/// What [`ViewerPath::choose`] says.
+/// What [`ViewerPath::choose`] returns.
 #[derive(Clone, Copy, Debug, PartialEq, Eq)]
 pub struct PathOrder {
     /// The index of the choice of layers that the viewer gets.
@@ -89,7 +89,7 @@ pub struct ViewerPath {
     fill: u128,
     /// The time of the latest choice.
     chosen: u64,
-    /// What the latest feedback said: memory that is used again.
+    /// What the latest feedback reported: memory that is used again.
     fates: Vec<PacketFate>,
 }
 
@@ -149,7 +149,8 @@ impl ViewerPath {
         self.limit.resend(now, number, size, round_trip)
     }
 
-    /// Hands in a transport-wide feedback of the viewer. Packets that did not leave on this path change nothing.
+    /// Hands in a transport-wide feedback of the viewer. What it says of packets that did not leave on this path changes nothing. If its
+    /// first packet did not leave, it is ignored whole.
     ///
     /// # Errors
     ///
