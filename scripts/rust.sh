@@ -42,6 +42,7 @@ step() {
 # The crate itself.
 crate() {
     step cargo fmt --check
+    step "$root/scripts/rust_api.py" --check
     step cargo clippy --quiet --all-targets -- -D warnings
     step cargo clippy --quiet --all-targets --features fallible -- -D warnings
     step cargo check --quiet --lib --no-default-features

@@ -119,7 +119,8 @@ pub struct SessionTransport {
 
 /// The settings of a session, except its lists.
 #[repr(C)]
-#[derive(Clone, Copy, Debug)]
+#[derive(Clone, Copy, Debug, PartialEq, Eq)]
+#[non_exhaustive]
 pub struct SessionSettings {
     /// How long frames of audio wait for missing packets.
     pub audio: WaitLimits,

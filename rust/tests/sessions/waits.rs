@@ -15,14 +15,16 @@ fn session_within(wait: Waiting, late: AdaptiveWaitSettings) -> Session {
     let mut settings = SessionSettings::live();
     settings.late = late;
     settings.formats = vec![
-        Format {
-            wait,
-            ..answered_vp8()
+        {
+            let mut format = answered_vp8();
+            format.wait = wait;
+            format
         },
-        Format {
-            retransmission: Some(RTX + 3),
-            wait,
-            ..opus_format()
+        {
+            let mut format = opus_format();
+            format.retransmission = Some(RTX + 3);
+            format.wait = wait;
+            format
         },
     ];
     settings.pairs = vec![SsrcPair {
@@ -96,9 +98,10 @@ fn waiting_follows_late_packets() -> Result<(), Fail> {
 /// A packet that comes after its frame was discarded counts too, or the limit would never rise again.
 #[test]
 fn packets_that_come_too_late_count() -> Result<(), Fail> {
-    let settings = AdaptiveWaitSettings {
-        first: 0,
-        ..AdaptiveWaitSettings::live()
+    let settings = {
+        let mut settings = AdaptiveWaitSettings::live();
+        settings.first = 0;
+        settings
     };
     let mut session = session_within(Waiting::Late, settings);
     session.receive(Ticks(0), &opus(7, 0))?;
