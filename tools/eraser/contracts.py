@@ -138,10 +138,10 @@ def trim_derive(f, i, k):
         f.refuse(t, f"derives {bad}")
     # Types that Rattle leaves without `Debug`, since no proof needs it, have it in Rust.
     names = [n for n in names if n != "Drop"] + ["Debug"] * ("Debug" not in names and not has_own_debug(f, end))
-    names += [n for n in MORE.get(type_behind(f, end), []) if n not in names]
+    names += [n for n in MORE.get(type_behind(f, end), []) if n not in names and f.has_users]
     if names:
         name = type_behind(f, end)
-        grows = f"\n{may_grow(f)}" if name in GROWING or name in SETTINGS else "\n#[doc(hidden)]" if is_inner(f, name) else ""
+        grows = f"\n{may_grow(f)}" if name in GROWING or (name in SETTINGS and f.has_users) else "\n#[doc(hidden)]" if is_inner(f, name) else ""
         f.ts[k + 2:end + 1] = tokens("(%s)]%s" % (", ".join(names), grows))[:-1]
         return close(f.ts, k)
     pre = t.pre

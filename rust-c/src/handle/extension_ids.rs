@@ -7,7 +7,6 @@ use codec_payload::rtp::values::ExtensionIds as Ids;
 /// The ids that signalling gave to header extensions (RFC 8285, section 5). 0: no id was agreed on.
 #[repr(C)]
 #[derive(Clone, Copy, Debug)]
-#[non_exhaustive]
 pub struct ExtensionIds {
     /// abs-capture-time: 8 bytes, or 16 with the offset of the clock.
     pub abs_capture_time: u8,

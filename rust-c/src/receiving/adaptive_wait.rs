@@ -8,7 +8,6 @@ use codec_payload::wire::Ticks;
 /// Within which bounds a limit moves, in ticks of your clock. Any values may be given.
 #[repr(C)]
 #[derive(Clone, Copy, Debug)]
-#[non_exhaustive]
 pub struct AdaptiveWaitSettings {
     /// The lowest limit.
     pub shortest: u64,

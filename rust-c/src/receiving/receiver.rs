@@ -74,7 +74,6 @@ pub struct ReceiverSettings {
 /// How long to wait for missing packets.
 #[repr(C)]
 #[derive(Clone, Copy, Debug)]
-#[non_exhaustive]
 pub struct WaitLimits {
     /// The longest time that a complete frame waits behind a gap, in ticks of your clock.
     pub max_wait: u64,

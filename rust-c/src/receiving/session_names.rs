@@ -10,7 +10,6 @@ use codec_payload::session::names::{StreamName, StreamNameIds as Ids, StreamName
 /// The ids of the header extensions with names of streams. 0: no id was agreed on.
 #[repr(C)]
 #[derive(Clone, Copy, Debug)]
-#[non_exhaustive]
 pub struct StreamNameIds {
     pub mid: u8,
     pub rid: u8,

@@ -119,8 +119,7 @@ pub struct SessionTransport {
 
 /// The settings of a session, except its lists.
 #[repr(C)]
-#[derive(Clone, Copy, Debug, PartialEq, Eq)]
-#[non_exhaustive]
+#[derive(Clone, Copy, Debug)]
 pub struct SessionSettings {
     /// How long frames of audio wait for missing packets.
     pub audio: WaitLimits,
