@@ -8,6 +8,7 @@ use crate::wire::Frequency;
 
 /// Returns a time of so many ticks of a clock with `before` ticks per second, by a clock with `after` ticks per second: rounded up to
 /// whole ticks, and at most 2^64 - 1.
+#[must_use]
 pub fn ticks_at(before: Frequency, after: Frequency, ticks: u64) -> u64 {
     let before = u128::from(before.get());
     let exact = (u128::from(ticks) * u128::from(after.get()) + (before - 1)) / before;
