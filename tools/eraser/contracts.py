@@ -17,7 +17,7 @@ MORE = {"FeedbackSettings": ["PartialEq", "Eq"], "PacketError": ["Clone", "Copy"
 GROWING = {"Arrival", "Codec", "CodecExtra", "Ending", "Event", "Forwarded", "Outcome", "Request", "Stage"}
 
 # Settings, which get new fields in later versions: outside of the crate they begin with a constructor, and fields are set one by one.
-SETTINGS = {"AdaptiveWaitSettings", "ExtensionIds", "FeedbackSettings", "Format", "LayerSettings", "NackSettings", "PacerSettings", "PathSettings",
+SETTINGS = {"AdaptiveWaitSettings", "EdgeRules", "ExtensionIds", "FeedbackSettings", "Format", "LayerSettings", "NackSettings", "PacerSettings", "PathSettings",
             "ResendSettings", "SessionSettings", "Settings", "StreamNameIds", "TransportSettings", "WaitLimits"}
 
 # Types that only the crate's own modules pass to one another: crate and name.

@@ -25,6 +25,7 @@ pub struct StreamEdges {
 
 impl StreamEdges {
     /// Returns the state before the first packet. Does not allocate.
+    #[must_use]
     pub fn new() -> StreamEdges {
         StreamEdges { followed: None }
     }
@@ -41,6 +42,7 @@ impl StreamEdges {
     /// Returns whether the sender has kept the rule so far: its pictures come in the order of their ids, and no media arrived under a
     /// number between two of them. If it did not, no numbers are found until the receiver finds a restart, or you call
     /// [`StreamEdges::forget`].
+    #[must_use]
     pub fn is_trusted(&self) -> bool {
         match &self.followed {
             Some(followed) => followed.is_trusted(),

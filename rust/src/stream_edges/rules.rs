@@ -11,6 +11,7 @@ use crate::wire::Codec;
 
 /// How the packets of a stream say where pictures begin and end.
 #[derive(Clone, Copy, Debug, PartialEq, Eq)]
+#[cfg_attr(not(feature = "exhaustive"), non_exhaustive)]
 pub struct EdgeRules {
     /// The codec of the stream. VP8 and VP9 have PictureIDs; packets of other codecs say it by the dependency descriptor alone.
     pub codec: Codec,
@@ -41,6 +42,7 @@ pub(crate) struct Brought<'a> {
 
 impl EdgeRules {
     /// Returns the rules for the stream of a receiver with these settings. Does not allocate.
+    #[must_use]
     pub fn of(codec: Codec, settings: &ReceiverSettings) -> EdgeRules {
         EdgeRules {
             codec,
@@ -170,7 +172,7 @@ fn type_of_retransmission(retransmission: Option<Retransmission>) -> Option<u8> 
 
 /// Returns the only block of a RED payload (RFC 2198, section 3), if it has this payload type: F and type(7), then the block. `None`: F
 /// is set, since there are more blocks, or the type is another one.
-fn lone_block<'a>(payload_type: u8, payload: &'a [u8]) -> Option<&'a [u8]> {
+fn lone_block(payload_type: u8, payload: &[u8]) -> Option<&[u8]> {
     match payload {
         [first, block @ ..] if *first == payload_type && *first < 128 => Some(block),
         _ => None,
