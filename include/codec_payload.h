@@ -2194,15 +2194,15 @@ static inline const char *cpay_status_text(cpay_status status) {
     case CPAY_EXTENSION_ROOM: return "the header extension has no room for the number";
     case CPAY_UNIT_TOO_LARGE: return "the unit is larger than the settings allow";
     case CPAY_QUEUE_FULL: return "more bytes would wait than the settings allow";
-    case CPAY_CCFB_TOO_SHORT: return "congestion control feedback is shorter than its SSRC and its timestamp";
-    case CPAY_CCFB_BLOCK_TOO_SHORT: return "congestion control feedback ends inside the head of a block";
-    case CPAY_CCFB_TOO_MANY: return "congestion control feedback has a block of more than 16384 packets";
-    case CPAY_CCFB_METRICS_TOO_SHORT: return "congestion control feedback ends inside the packets of a block";
-    case CPAY_FEC_HEADER_TOO_SHORT: return "packet of FEC is shorter than its header";
-    case CPAY_FEC_EXTENDED: return "packet of FEC has its extension flag set";
-    case CPAY_FEC_LEVEL_TOO_SHORT: return "packet of FEC ends inside the header of level 0";
-    case CPAY_FEC_EMPTY_MASK: return "packet of FEC protects no packet";
-    case CPAY_FEC_PAYLOAD_TOO_SHORT: return "packet of FEC ends inside the payload of level 0";
+    case CPAY_CCFB_TOO_SHORT: return "the RFC 8888 feedback is shorter than its SSRC and its timestamp";
+    case CPAY_CCFB_BLOCK_TOO_SHORT: return "the RFC 8888 feedback ends inside the head of a block";
+    case CPAY_CCFB_TOO_MANY: return "the RFC 8888 feedback has a block of more than 16384 packets";
+    case CPAY_CCFB_METRICS_TOO_SHORT: return "the RFC 8888 feedback ends inside the packets of a block";
+    case CPAY_FEC_HEADER_TOO_SHORT: return "the FEC packet is shorter than its header";
+    case CPAY_FEC_EXTENDED: return "the FEC packet has its extension flag set";
+    case CPAY_FEC_LEVEL_TOO_SHORT: return "the FEC packet ends inside the header of level 0";
+    case CPAY_FEC_EMPTY_MASK: return "the FEC packet protects no packet";
+    case CPAY_FEC_PAYLOAD_TOO_SHORT: return "the FEC packet ends inside the payload of level 0";
     default: return "unknown status";
     }
 }
