@@ -55,7 +55,7 @@ EXPORT = re.compile(
 
 
 OBJECTS_BEGIN = """\
-/* Objects whose handles have memory of their own: codec_payload_bindings.h. Written by c/check_header.py --bindings. */
+/* Objects that the library allocates: codec_payload_bindings.h. Written by c/check_header.py --bindings. */
 #include "codec_payload_bindings.h"
 
 #include <stdlib.h>
@@ -319,7 +319,7 @@ def names():
 def wrong_names():
     """What is wrong with the lists of names."""
     listed = sorted(name for _, _, found in versions() for name in found)
-    wrong = [f"packaging/codec_payload.map: {name} stands there twice" for name in {it for it in listed if listed.count(it) > 1}]
+    wrong = [f"packaging/codec_payload.map: {name} is listed twice" for name in {it for it in listed if listed.count(it) > 1}]
     wrong += [f"packaging/codec_payload.map: {name} is there or in the headers, and not in both" for name in set(listed) ^ set(exported())]
     return wrong + [f"{path} is not what check_header.py --names writes" for path, text in names().items() if read(path) != text]
 

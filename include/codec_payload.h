@@ -934,6 +934,24 @@ typedef struct {
 void cpay_receiver_settings_init(cpay_receiver_settings *settings, cpay_codec codec, uint32_t rate, uint8_t payload_type,
                                  cpay_purpose purpose);
 
+/** A time of `ticks` of a clock with `before` ticks per second, by a clock with `after` ticks per second. It is rounded up to whole
+ * ticks, and at most 2^64 - 1. `before` 0 counts as 1. Does not allocate. */
+static inline uint64_t cpay_ticks_at(uint32_t before, uint32_t after, uint64_t ticks) {
+    const uint64_t from = before ? before : 1, whole = ticks / from, part = (ticks % from * after + (from - 1)) / from;
+    if (after && whole > (UINT64_MAX - part) / after) return UINT64_MAX;
+    return whole * after + part;
+}
+
+/** Sets the number of ticks per second of your clock. The time for which a frame waits stays the same: `max_wait` gets its number
+ * of ticks of the new clock (cpay_ticks_at). So settings by purpose serve each clock. CPAY_INVALID, and nothing changes:
+ * `tick_rate` or that of the settings is 0. Does not allocate. */
+static inline cpay_status cpay_receiver_settings_set_tick_rate(cpay_receiver_settings *settings, uint32_t tick_rate) {
+    if (!tick_rate || !settings->tick_rate) return CPAY_INVALID;
+    settings->max_wait = cpay_ticks_at(settings->tick_rate, tick_rate, settings->max_wait);
+    settings->tick_rate = tick_rate;
+    return CPAY_OK;
+}
+
 /** The settings `forward` and `backward` for a stream of at most `rate` packets per second: 12 s of packets ahead and 5 s behind.
  * They are at least 3000 and 1000, and at most 32760 and 13650 (2730 packets per second). A burst that is late by more packets
  * than `backward` is reported as a restart, so use the highest rate of the stream. */
@@ -1638,6 +1656,25 @@ void cpay_session_settings_init(cpay_session_settings *settings, cpay_purpose pu
  * Does not allocate. */
 CPAY_CHECKED cpay_status cpay_session_settings_feedback(cpay_session_settings *settings, uint32_t ssrc, const uint8_t *cname,
                                                         size_t cname_len);
+
+/** Sets the number of ticks per second of your clock. All times of the settings stay the same, those of `feedback` and `transport`
+ * among them: each gets its number of ticks of the new clock (cpay_ticks_at). So settings by purpose serve each clock. Call it once
+ * all times are set. CPAY_INVALID, and nothing changes: `tick_rate` or that of the settings is 0. Does not allocate. */
+static inline cpay_status cpay_session_settings_set_tick_rate(cpay_session_settings *settings, uint32_t tick_rate) {
+    uint64_t *const times[] = {
+        &settings->audio.max_wait,            &settings->video.max_wait,           &settings->late.shortest,
+        &settings->late.longest,              &settings->late.first,               &settings->late.lost_after,
+        &settings->idle_timeout,              &settings->bye_wait,                 &settings->feedback.keyframe_interval,
+        &settings->feedback.silence,          &settings->feedback.first_wait,      &settings->feedback.retry,
+        &settings->feedback.shortest_retry,   &settings->feedback.longest_retry,   &settings->feedback.longest_wait,
+        &settings->feedback.report_interval,  &settings->transport.interval,
+    };
+    if (!tick_rate || !settings->tick_rate) return CPAY_INVALID;
+    for (size_t i = 0; i < sizeof times / sizeof *times; i++)
+        *times[i] = cpay_ticks_at(settings->tick_rate, tick_rate, *times[i]);
+    settings->tick_rate = tick_rate;
+    return CPAY_OK;
+}
 
 /** In `no_media` of cpay_session_new: added to the payload type of telephone events (RFC 4733), see CPAY_EVENT_TELEPHONE. */
 #define CPAY_TELEPHONE 128

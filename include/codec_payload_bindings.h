@@ -54,7 +54,7 @@ const char *cpay_codec_name(uint32_t codec);
 CPAY_CHECKED cpay_status cpay_receiver_take(cpay_receiver *receiver, uint64_t now, const uint8_t *datagram, size_t datagram_len,
                                             cpay_status *received, cpay_outcome *outcome, cpay_unit *unit, const uint8_t **at);
 
-/** Creates a packetizer as cpay_packetizer_new does, in memory of its own, and writes its place to *packetizer.
+/** Creates a packetizer as cpay_packetizer_new does, in memory that the library allocates, and writes its address to *packetizer.
  * CPAY_OUT_OF_MEMORY: also if there is no memory for the handle. If the call fails, *packetizer is unchanged. The other calls
  * named *_create do the same for their objects. [m] */
 CPAY_CHECKED cpay_status cpay_packetizer_create(cpay_packetizer **packetizer, const cpay_spec *spec);

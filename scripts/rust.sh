@@ -42,6 +42,7 @@ step() {
 # The crate itself.
 crate() {
     step cargo fmt --check
+    step "$root/scripts/rust_api.py" --check
     step cargo clippy --quiet --all-targets -- -D warnings
     step cargo clippy --quiet --all-targets --features fallible -- -D warnings
     step cargo check --quiet --lib --no-default-features
@@ -53,7 +54,7 @@ crate() {
     fallible=$(sed -n 's/^test result: ok. \([0-9]*\) passed.*/\1/p' "$work/log" | awk '{ sum += $1 } END { print sum }')
     RUSTDOCFLAGS="-D warnings" step cargo doc --quiet --no-deps
     # Some examples print a table of a page.
-    tables="bandwidth:BANDWIDTH waiting:LIMITS restarts:LIMITS adaptive_wait:LIMITS session_requests:FEEDBACK"
+    tables="bandwidth:BANDWIDTH narrow:BANDWIDTH waiting:LIMITS restarts:LIMITS adaptive_wait:LIMITS session_requests:FEEDBACK"
     for example in examples/*.rs; do
         example=$(basename "$example" .rs)
         case " $tables " in

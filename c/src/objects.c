@@ -1,4 +1,4 @@
-/* Objects whose handles have memory of their own: codec_payload_bindings.h. Written by c/check_header.py --bindings. */
+/* Objects that the library allocates: codec_payload_bindings.h. Written by c/check_header.py --bindings. */
 #include "codec_payload_bindings.h"
 
 #include <stdlib.h>

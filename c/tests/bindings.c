@@ -1,4 +1,4 @@
-/* codec_payload_bindings.h: texts, names, and objects in memory of their own. */
+/* codec_payload_bindings.h: texts, names, and objects that the library allocates. */
 #include "codec_payload_bindings.h"
 #include "check.h"
 

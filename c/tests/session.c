@@ -470,7 +470,7 @@ static void sent_reports(void) {
     cpay_session_free(&session);
 }
 
-/* Extended reports (RFC 3611, sections 4.4 and 4.5): an answer tells the round trip, and the session answers the times of others. */
+/* Extended reports (RFC 3611, sections 4.4 and 4.5): an answer gives the round trip, and the session answers the times of others. */
 static void extended_reports(void) {
     /* an answer of SSRC 5 to SSRC 77: the middle 32 bits of 1 s, which came 37 ms ago */
     static const uint8_t answer[] = {0x80, 207, 0, 5, 0, 0, 0, 5, 5, 0, 0, 3, 0, 0, 0, 77, 0, 1, 0, 0, 0, 0, 9, 0x79};

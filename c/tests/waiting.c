@@ -1,5 +1,6 @@
 /* A limit of waiting that follows how late missing packets arrive: 5/4 of the greatest of the latest 32 ages, within the bounds of
- * the settings. All expected limits are worked by this rule. The last test puts it around a receiver. */
+ * the settings. All expected limits are worked by this rule. The last test puts it around a receiver. Also: settings for clocks with
+ * other numbers of ticks per second. */
 #include "any.h"
 #include "check.h"
 #include "codec_payload.h"
@@ -159,8 +160,54 @@ static void around_a_receiver(void) {
     cpay_adaptive_wait_free(&wait);
 }
 
+/* Each default time, in milliseconds, is the stated number of ticks by other clocks: the least number that is not shorter. */
+static void tick_rates(void) {
+    static const uint32_t rates[] = {1, 7, 1000, 48000, 90000, 1000000, 1000000000, UINT32_MAX};
+    for (size_t i = 0; i < sizeof rates / sizeof *rates; i++) {
+        const uint64_t rate = rates[i];
+        cpay_session_settings settings;
+        cpay_session_settings_init(&settings, CPAY_FOR_LIVE_WITH_NACK);
+        CHECK(cpay_session_settings_feedback(&settings, 9, (const uint8_t *)"me", 2) == CPAY_OK);
+        CHECK(cpay_session_settings_set_tick_rate(&settings, rates[i]) == CPAY_OK);
+        const uint64_t pairs[][2] = {
+            {settings.audio.max_wait, 200},          {settings.video.max_wait, 200},
+            {settings.late.shortest, 20},            {settings.late.longest, 400},
+            {settings.late.first, 200},              {settings.late.lost_after, 1000},
+            {settings.idle_timeout, 30000},          {settings.bye_wait, 200},
+            {settings.feedback.keyframe_interval, 100}, {settings.feedback.silence, 2000},
+            {settings.feedback.first_wait, 10},      {settings.feedback.retry, 100},
+            {settings.feedback.shortest_retry, 20},  {settings.feedback.longest_retry, 400},
+            {settings.feedback.longest_wait, 1500},  {settings.feedback.report_interval, 1000},
+            {settings.transport.interval, 100},
+        };
+        for (size_t k = 0; k < sizeof pairs / sizeof *pairs; k++) {
+            CHECK(pairs[k][0] * 1000 >= pairs[k][1] * rate);
+            CHECK((pairs[k][0] - 1) * 1000 < pairs[k][1] * rate);
+        }
+        CHECK(settings.tick_rate == rate && settings.feedback.tries == 6 && settings.limit == 4096);
+        cpay_receiver_settings receiver;
+        cpay_receiver_settings_init(&receiver, CPAY_VP8, 90000, 96, CPAY_FOR_LIVE);
+        CHECK(cpay_receiver_settings_set_tick_rate(&receiver, rates[i]) == CPAY_OK);
+        CHECK(receiver.tick_rate == rate && receiver.has_max_wait && receiver.spec.rate == 90000);
+        CHECK(receiver.max_wait * 1000 >= 100 * rate && (receiver.max_wait - 1) * 1000 < 100 * rate);
+    }
+    CHECK(cpay_ticks_at(1000, 1000000000, UINT64_MAX / 1000000) == UINT64_MAX / 1000000 * 1000000);
+    CHECK(cpay_ticks_at(1000, 1000000000, UINT64_MAX / 1000000 + 1) == UINT64_MAX);
+    CHECK(cpay_ticks_at(1000, UINT32_MAX, UINT64_MAX) == UINT64_MAX && cpay_ticks_at(1, UINT32_MAX, UINT64_MAX) == UINT64_MAX);
+    CHECK(cpay_ticks_at(UINT32_MAX, 1, UINT64_MAX) == UINT64_C(4294967297) && cpay_ticks_at(UINT32_MAX, 1, 1) == 1);
+    CHECK(cpay_ticks_at(UINT32_MAX, UINT32_MAX, UINT64_MAX) == UINT64_MAX && cpay_ticks_at(5, 7, 0) == 0);
+    cpay_receiver_settings none = {.tick_rate = 0, .max_wait = 5};
+    CHECK(cpay_receiver_settings_set_tick_rate(&none, 1000) == CPAY_INVALID && none.max_wait == 5);
+    none.tick_rate = 1000;
+    CHECK(cpay_receiver_settings_set_tick_rate(&none, 0) == CPAY_INVALID && none.tick_rate == 1000);
+    cpay_session_settings session;
+    cpay_session_settings_init(&session, CPAY_FOR_LIVE);
+    CHECK(cpay_session_settings_set_tick_rate(&session, 0) == CPAY_INVALID && session.tick_rate == 1000 && session.bye_wait == 200);
+}
+
 int main(void) {
     rule();
+    tick_rates();
     losses();
     handles();
     around_a_receiver();

@@ -16,8 +16,9 @@ class Receiver(Handle):
 
     `codec` is a name such as "VP8", `rate` the RTP clock rate in hertz (90,000 for video, 48,000 for Opus), `payload_type` 0 to 127.
     Without `ssrc` two packets of one sender choose the stream. `purpose` sets the default waits: "live" 100 ms, "live_with_nack"
-    200 ms, "file" without end. `max_wait` is in ticks of your clock, `tick_rate` ticks a second (1,000: milliseconds). `no_media` lists
-    payload types that share the stream's numbers and carry none of its media, such as comfort noise.
+    200 ms, "file" without end. Your clock has `tick_rate` ticks a second (1,000: milliseconds). The default waits follow it, and
+    `max_wait` is in these ticks. `no_media` lists payload types that share the stream's numbers and carry none of its media, such as
+    comfort noise.
 
     Raises InvalidArgument for values out of range, and OverflowError for numbers that their field cannot hold.
     """
@@ -29,6 +30,7 @@ class Receiver(Handle):
                  dependency_descriptor: int = 0, tick_rate: int = 1000) -> None:
         settings = ffi.new("cpay_receiver_settings *")
         lib.cpay_receiver_settings_init(settings, number_of(codec), rate, payload_type, purpose_of(purpose))
+        check(lib.cpay_receiver_settings_set_tick_rate(settings, tick_rate))
         option(settings, "ssrc", ssrc)
         option(settings, "max_wait", max_wait)
         for name, value in (("hold_back", hold_back), ("start", start), ("limit", limit), ("max_unit", max_unit)):
@@ -39,7 +41,6 @@ class Receiver(Handle):
         if rtx is not None:
             settings.has_rtx, settings.rtx_ssrc, settings.rtx_payload_type = True, rtx.ssrc, rtx.payload_type
         settings.from_keyframe, settings.dependency_descriptor = from_keyframe, dependency_descriptor
-        settings.tick_rate = tick_rate
         self._begin(settings, octets(no_media))
 
     def _begin(self, settings: Any, no_media: bytes) -> None:

@@ -139,7 +139,8 @@ class Session(Handle):
     With `ssrc` and `cname`, which name the session as a sender of RTCP, it requests missing packets and keyframes and sends receiver
     reports: send the bytes of `rtcp` of its events. `telephone` lists payload types of telephone events beside audio, `no_media` others
     that carry no media. `pairs` maps the SSRC of a stream to the SSRC of its retransmissions. `tick_rate` is ticks a second of your
-    clock, `idle_timeout` in these ticks, `limit` packets of a stream, `max_unit` bytes of a frame.
+    clock: all default times follow it, and `idle_timeout` is in these ticks. `limit` is packets of a stream, `max_unit` bytes of a
+    frame.
 
     Raises InvalidArgument, whose text says which setting is wrong, and OverflowError for numbers that their field cannot hold.
     """
@@ -151,8 +152,10 @@ class Session(Handle):
                  probation: int | None = None, from_keyframe: Keyframes | None = None) -> None:
         settings = ffi.new("cpay_session_settings *")
         lib.cpay_session_settings_init(settings, purpose_of(purpose))
-        given = {"tick_rate": tick_rate, "idle_timeout": idle_timeout, "limit": limit, "max_unit": max_unit,
-                 "max_streams": max_streams, "probation": probation, "from_keyframe": from_keyframe}
+        if tick_rate is not None:
+            check(lib.cpay_session_settings_set_tick_rate(settings, tick_rate))
+        given = {"idle_timeout": idle_timeout, "limit": limit, "max_unit": max_unit, "max_streams": max_streams,
+                 "probation": probation, "from_keyframe": from_keyframe}
         for name, value in given.items():
             if value is not None:
                 setattr(settings, name, value)

@@ -2,8 +2,8 @@
 import os
 
 import pytest
-from codec_payload import (ArrivalKind, Ending, EventKind, Format, InvalidArgument, KeyframeAnswer, Outcome, Red, Session, Stage, errors,
-                           sdp)
+from codec_payload import (ArrivalKind, Ending, EventKind, Format, InvalidArgument, KeyframeAnswer, Outcome, Receiver, Red, Session,
+                           Stage, errors, sdp)
 from codec_payload._c import lib
 from packets import rtp, vp8, vp8_frame
 
@@ -77,6 +77,15 @@ def test_wrong_settings():
             Session(formats, **settings)
     with pytest.raises(InvalidArgument, match="payload type"):
         Session([Format("VP8", 70, 90_000)])
+
+
+def test_default_times_follow_the_clock():
+    for rate, ticks in ((1_000, 1), (1_000_000, 1_000)):
+        receiver, session = Receiver("opus", 111, 48_000, ssrc=7, tick_rate=rate), Session([AUDIO], probation=1, tick_rate=rate)
+        for it in (receiver, session):
+            it.receive(0, rtp(1, b"x", payload_type=111))
+        assert [it.kind for it in session.events(0)] == [EventKind.BEGUN]
+        assert receiver.next_deadline() == session.next_deadline() == 100 * ticks
 
 
 def test_description_of_chromium():

@@ -96,15 +96,18 @@ impl Viewer {
             };
             LayerChoice { rate, begin }
         });
-        let settings = PathSettings {
-            start: 160_000,
-            least: 30_000,
-            most: 5_000_000,
-            pacer: PacerSettings {
-                burst: 400,
-                bound: 60_000,
-            },
-            ..PathSettings::live()
+        let settings = {
+            let mut it = PathSettings::live();
+            it.start = 160_000;
+            it.least = 30_000;
+            it.most = 5_000_000;
+            it.pacer = {
+                let mut settings = PacerSettings::live();
+                settings.burst = 400;
+                settings.bound = 60_000;
+                settings
+            };
+            it
         };
         Viewer {
             path: ViewerPath::new(Ticks(0), settings).unwrap(),

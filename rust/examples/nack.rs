@@ -39,11 +39,12 @@ struct NackLoop {
 impl NackLoop {
     fn new(round_trip: u64) -> NackLoop {
         NackLoop {
-            schedule: NackSchedule::new(NackSettings {
-                first_wait: 0,
-                retry: round_trip,
-                tries: TRIES,
-                ..NackSettings::live()
+            schedule: NackSchedule::new({
+                let mut settings = NackSettings::live();
+                settings.first_wait = 0;
+                settings.retry = round_trip;
+                settings.tries = TRIES;
+                settings
             }),
             missing: Vec::new(),
             numbers: Vec::new(),

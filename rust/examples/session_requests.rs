@@ -156,18 +156,20 @@ impl ReceivingSide {
             octet_align: false,
         };
         let mut settings = SessionSettings::live();
-        settings.formats.push(Format {
-            nack: true,
-            pli: true,
-            ..Format::new(VP8, spec)
+        settings.formats.push({
+            let mut format = Format::new(VP8, spec);
+            format.nack = true;
+            format.pli = true;
+            format
         });
         if requests != Requests::None {
             let longest_wait = (requests == Requests::ByRoundTrip).then_some(LONGEST_WAIT);
-            settings.feedback = Some(FeedbackSettings {
-                longest_wait,
+            settings.feedback = Some({
+                let mut settings = FeedbackSettings::live(OWN_SSRC, b"me@host".to_vec());
+                settings.longest_wait = longest_wait;
                 // The way back carries requests alone.
-                report_interval: None,
-                ..FeedbackSettings::live(OWN_SSRC, b"me@host".to_vec())
+                settings.report_interval = None;
+                settings
             });
         }
         Ok(ReceivingSide {

@@ -298,11 +298,12 @@ fn session(own_ssrc: u32, pairs: &[(u32, u32)]) -> Result<Session, Box<dyn Error
         octet_align: false,
     };
     let mut settings = SessionSettings::live();
-    settings.formats.push(Format {
-        retransmission: Some(RTX),
-        nack: true,
-        pli: true,
-        ..Format::new(VP8, spec)
+    settings.formats.push({
+        let mut format = Format::new(VP8, spec);
+        format.retransmission = Some(RTX);
+        format.nack = true;
+        format.pli = true;
+        format
     });
     settings.pairs = pairs
         .iter()

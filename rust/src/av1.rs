@@ -19,12 +19,14 @@ pub use depacketizer::Av1Depacketizer;
 pub use packetizer::Av1Packetizer;
 
 /// How many bytes a number takes as the shortest LEB128 (AV1 bitstream specification, section 4.10.5): 1 to 10.
+#[must_use]
 pub fn leb_128_size(value: usize) -> usize {
     leb::number_len(value as u64)
 }
 
 /// Whether the N bit of the payload is set, with which a new coded video sequence starts (RTP Payload Format for AV1,
 /// section 4.4). An empty payload has none.
+#[must_use]
 pub fn detect_av1_keyframe(payload: &[u8]) -> bool {
     match payload.first() {
         Some(header) => AggregationHeader { byte: *header }.starts(),

@@ -47,6 +47,7 @@ pub struct BitReader<'a> {
 
 impl<'a> BitReader<'a> {
     /// A reader at the first bit of `data`.
+    #[must_use]
     pub fn new(data: &'a [u8]) -> Self {
         BitReader {
             source: data,
@@ -56,6 +57,7 @@ impl<'a> BitReader<'a> {
     }
 
     /// A reader at that bit of `data`, counted from 0. A place past the end counts as the end.
+    #[must_use]
     pub fn at(data: &'a [u8], place_in_bits: usize) -> Self {
         if place_in_bits / 8 >= data.len() {
             BitReader {
@@ -73,6 +75,7 @@ impl<'a> BitReader<'a> {
     }
 
     /// Another reader at the same place; each moves on its own.
+    #[must_use]
     pub fn fork(&self) -> Self {
         BitReader {
             source: self.source,
@@ -82,6 +85,7 @@ impl<'a> BitReader<'a> {
     }
 
     /// All bytes from that one on in which the place stands. The place stays.
+    #[must_use]
     pub fn ahead(&self) -> &'a [u8] {
         &self.source[self.byte..]
     }
@@ -98,6 +102,7 @@ impl<'a> BitReader<'a> {
     }
 
     /// The number of bits between the start of the current byte and the place, 0 to 7.
+    #[must_use]
     pub fn bits_behind_byte(&self) -> usize {
         self.bit
     }

@@ -75,6 +75,7 @@ pub struct DepacketizingBuffer<B = NoBox> {
 impl<B: Depacketizer> DepacketizingBuffer<B> {
     /// Creates an empty buffer for this depacketizer, with room for 4,096 packets. A frame behind a gap is held back until more
     /// than `hold_back` complete frames are held. Allocates nothing.
+    #[must_use]
     pub fn new(depacketizer: CodecDepacketizer<B>, hold_back: usize) -> Self {
         DepacketizingBuffer::with_limit(depacketizer, hold_back, HELD_LIMIT)
     }
@@ -91,6 +92,7 @@ impl<B: Depacketizer> DepacketizingBuffer<B> {
     /// # Panics
     ///
     /// Unless `(1..=65_536).contains(&limit)`.
+    #[must_use]
     pub fn with_limit(depacketizer: CodecDepacketizer<B>, hold_back: usize, limit: usize) -> Self {
         assert!((1..=65_536).contains(&limit));
         DepacketizingBuffer {
@@ -195,6 +197,7 @@ impl<B: Depacketizer> DepacketizingBuffer<B> {
     ///   have changed.
     /// - Any other error comes from the depacketizer: the frame was discarded. The next unit can still be contiguous, since its
     ///   numbers follow.
+    #[must_use]
     pub fn pop(&mut self) -> Option<Result<Depacketized, PacketError>> {
         self.pop_counted().0
     }
@@ -204,6 +207,7 @@ impl<B: Depacketizer> DepacketizingBuffer<B> {
     ///
     /// The metadata of the packets move to the unit, and no [`RtpMeta`] is made. So this is the cheapest pop. It allocates only if
     /// the memory of `unit` has no room for the bytes or the packets.
+    #[must_use]
     pub fn pop_unit(&mut self, unit: &mut PoppedUnit) -> Option<Result<(), PacketError>> {
         self.pop_unit_counted(unit).0
     }
@@ -214,22 +218,26 @@ impl<B: Depacketizer> DepacketizingBuffer<B> {
     }
 
     /// Returns the largest number of held packets, 1 to 65,536. No call changes it.
+    #[must_use]
     pub fn limit(&self) -> usize {
         self.limit as usize
     }
 
     /// Returns the number of complete frames, due or not. Allocates nothing; the cost does not grow with the number of packets.
+    #[must_use]
     pub fn ready(&self) -> usize {
         self.complete.len()
     }
 
     /// Returns how many complete frames a frame behind a gap waits for.
+    #[must_use]
     pub fn hold_back(&self) -> usize {
         self.hold_back
     }
 
     /// Returns the time at which the last packet of the first complete frame arrived, or `None` if no frame is complete.
     #[inline(always)]
+    #[must_use]
     pub fn ready_since(&self) -> Option<Ticks> {
         let frame = lowest_frame(&self.complete)?;
         received_at(&self.packets, frame.last)
@@ -242,11 +250,13 @@ impl<B: Depacketizer> DepacketizingBuffer<B> {
     }
 
     /// Returns the cutoff, the highest number whose packets are late, if there is one.
+    #[must_use]
     pub fn cutoff(&self) -> Option<SeqNo> {
         self.cutoff.map(SeqNo)
     }
 
     /// Returns whether a packet with this number is held.
+    #[must_use]
     pub fn holds(&self, number: SeqNo) -> bool {
         let place = find_place(&self.packets, number.0);
         is_at(&self.packets, place, number.0)
@@ -254,6 +264,7 @@ impl<B: Depacketizer> DepacketizingBuffer<B> {
 
     /// Returns how many consecutive numbers from this one on are held: 0 if this one is not. The cost is that of
     /// [`DepacketizingBuffer::holds`], however many there are.
+    #[must_use]
     pub fn held_in_a_row(&self, number: SeqNo) -> usize {
         let place = find_place(&self.packets, number.0);
         if is_at(&self.packets, place, number.0) {

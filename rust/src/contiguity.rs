@@ -48,6 +48,7 @@ pub struct Vp8Contiguity {
 
 impl Vp8Contiguity {
     /// No frame was released.
+    #[must_use]
     pub fn new() -> Self {
         Vp8Contiguity {
             ids: FrameContiguityState {
@@ -83,6 +84,7 @@ pub struct Vp9Contiguity {
 
 impl Vp9Contiguity {
     /// No frame was released.
+    #[must_use]
     pub fn new() -> Self {
         Vp9Contiguity {
             ids: FrameContiguityState {

@@ -82,6 +82,7 @@ impl core::error::Error for PacketError {}
 
 impl PacketError {
     /// The fault's number: 1 to 17, in the order of the variants.
+    #[must_use]
     pub fn number(&self) -> u8 {
         match self {
             PacketError::ErrShortPacket => 1,

@@ -48,6 +48,7 @@ pub mod stream {
     #[doc(inline)]
     pub use crate::stream::{
         Counters, ParsedDatagram, ReceptionReport, ReceptionStatistics, SettingsError, Windows,
+        ticks_at,
     };
 
     #[doc(hidden)]

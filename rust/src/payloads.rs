@@ -140,21 +140,25 @@ impl Payloads {
     }
 
     /// How many bytes are free in front of each payload.
+    #[must_use]
     pub fn headroom(&self) -> usize {
         self.headroom
     }
 
     /// The number of bytes free after each payload.
+    #[must_use]
     pub fn tailroom(&self) -> usize {
         self.tailroom
     }
 
     /// How many payloads there are. Each has a header, which may have no bytes.
+    #[must_use]
     pub fn len(&self) -> usize {
         self.spans.len()
     }
 
     /// Whether it holds no payloads.
+    #[must_use]
     pub fn is_empty(&self) -> bool {
         self.spans.is_empty()
     }
@@ -164,6 +168,7 @@ impl Payloads {
     /// # Panics
     ///
     /// Unless `i < self.len()`.
+    #[must_use]
     pub fn get(&self, i: usize) -> &[u8] {
         let span = self.spans[i];
         part(&self.bytes, span.start, span.end)
@@ -174,6 +179,7 @@ impl Payloads {
     /// # Panics
     ///
     /// Unless `i < self.len()`.
+    #[must_use]
     pub fn header(&self, i: usize) -> &[u8] {
         let span = self.spans[i];
         part(&self.bytes, span.front, span.start)
@@ -184,6 +190,7 @@ impl Payloads {
     /// # Panics
     ///
     /// Unless `i < self.len()`.
+    #[must_use]
     pub fn packet(&self, i: usize) -> &[u8] {
         let span = self.spans[i];
         part(&self.bytes, span.front, span.end)

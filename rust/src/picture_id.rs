@@ -18,6 +18,7 @@ pub enum PictureId {
 
 impl PictureId {
     /// The id at the front of `bytes` and the bytes after it; `None` if a byte is missing.
+    #[must_use]
     pub fn take(bytes: &[u8]) -> Option<(PictureId, &[u8])> {
         let (&first, rest) = bytes.split_first()?;
         if first & 0x80 == 0 {
@@ -31,6 +32,7 @@ impl PictureId {
     }
 
     /// An id of at most 15 bits in its shortest form.
+    #[must_use]
     pub fn shortest(id: u16) -> PictureId {
         if id < 128 {
             PictureId::Short(id as u8)
@@ -39,6 +41,7 @@ impl PictureId {
         }
     }
 
+    #[must_use]
     pub fn value(self) -> u16 {
         match self {
             PictureId::Short(id) => u16::from(id),
@@ -48,6 +51,7 @@ impl PictureId {
 
     /// Extends the id beyond its bits. `extended` is the previous extended id, if there was one, and `last` the id that was sent
     /// before this one.
+    #[must_use]
     pub fn extend(self, extended: Option<u64>, last: u16) -> u64 {
         let Some(before) = extended else {
             return u64::from(self.value());
@@ -63,6 +67,7 @@ impl PictureId {
 
 /// The bytes of an id of 15 bits.
 #[inline(always)]
+#[must_use]
 pub fn long_bytes(id: u16) -> [u8; 2] {
     [(id / 256) as u8 + 0x80, (id % 256) as u8]
 }

@@ -343,6 +343,7 @@ impl<B: Packetizer> Sender<B> {
     }
 
     /// Returns the number of datagrams of the last sample.
+    #[must_use]
     pub fn len(&self) -> usize {
         self.packets.out.len()
     }
@@ -352,6 +353,7 @@ impl<B: Packetizer> Sender<B> {
     /// # Panics
     ///
     /// Unless `place < self.len()`.
+    #[must_use]
     pub fn datagram(&self, place: usize) -> &[u8] {
         self.packets.out.packet(place)
     }
@@ -374,11 +376,13 @@ impl<B: Packetizer> Sender<B> {
     }
 
     /// Returns the number of free bytes after each datagram.
+    #[must_use]
     pub fn tailroom(&self) -> usize {
         self.packets.out.tailroom()
     }
 
     /// Returns the sequence number of the next packet.
+    #[must_use]
     pub fn next_number(&self) -> u16 {
         self.stream.number
     }
@@ -411,6 +415,7 @@ impl<B: Packetizer> Sender<B> {
     ///
     /// The RTP time of the report is the same moment as its NTP time (RFC 3550, section 6.4.1). Your clock has the NTP time. The
     /// moment may be before or after the last sample.
+    #[must_use]
     pub fn report(&self, now: MediaTime) -> Report {
         Report {
             ssrc: self.stream.ssrc,
@@ -421,6 +426,7 @@ impl<B: Packetizer> Sender<B> {
     }
 
     /// Returns the counts for sender reports.
+    #[must_use]
     pub fn counts(&self) -> Counts {
         self.counts
     }

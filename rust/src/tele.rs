@@ -30,6 +30,7 @@ pub struct TelephoneEventDepacketizer {
 
 impl TelephoneEventDepacketizer {
     /// A depacketizer of reports whose durations count ticks of a clock of this rate.
+    #[must_use]
     pub fn new(rate: Frequency) -> Self {
         TelephoneEventDepacketizer { rate }
     }

@@ -18,11 +18,13 @@ pub struct Pt(u8);
 
 impl Pt {
     /// The payload type of a number, which is kept as it is.
+    #[must_use]
     pub fn new_with_value(value: u8) -> Pt {
         Pt(value)
     }
 
     /// The number that it was made of: 0 to 255.
+    #[must_use]
     pub fn value(&self) -> u8 {
         self.0
     }
@@ -54,6 +56,7 @@ impl Frequency {
     pub const NINETY_KHZ: Frequency = Frequency { hertz: 90_000 };
 
     /// A rate in hertz; `None` for 0.
+    #[must_use]
     pub fn make(hertz: u32) -> Option<Frequency> {
         if hertz == 0 {
             None
@@ -63,6 +66,7 @@ impl Frequency {
     }
 
     /// The rate in hertz.
+    #[must_use]
     pub fn get(self) -> u32 {
         self.hertz
     }
@@ -78,6 +82,7 @@ pub struct MediaTime {
 
 impl MediaTime {
     /// `numer` ticks of a clock of this rate.
+    #[must_use]
     pub fn new(numer: u64, rate: Frequency) -> MediaTime {
         MediaTime {
             numer,
@@ -86,21 +91,25 @@ impl MediaTime {
     }
 
     /// `numer` ticks of the clock of 90 kHz that video uses.
+    #[must_use]
     pub fn from_90khz(numer: u64) -> MediaTime {
         MediaTime::new(numer, Frequency::NINETY_KHZ)
     }
 
     /// The ticks.
+    #[must_use]
     pub fn numer(&self) -> u64 {
         self.numer
     }
 
     /// The rate of the clock.
+    #[must_use]
     pub fn frequency(&self) -> Frequency {
         self.frequency
     }
 
     /// The same time by another clock, rounded down to whole ticks; of a number of more than 64 bits, the low 64.
+    #[must_use]
     pub fn rebase(self, rate: Frequency) -> MediaTime {
         let from = u64::from(self.frequency.get());
         let to = u64::from(rate.get());
@@ -224,6 +233,7 @@ fn nearest_of(previous: u64, id: u64, range: u64) -> u64 {
 
 /// An id of 7 bits extended: without a previous number the id, else the number nearest to it, modulo 2^64, whose low 7
 /// bits are the id's, half the range going forward.
+#[must_use]
 #[doc(hidden)]
 pub fn extend_u7(previous: Option<u64>, id: u8) -> u64 {
     match previous {
@@ -233,6 +243,7 @@ pub fn extend_u7(previous: Option<u64>, id: u8) -> u64 {
 }
 
 /// Extends an id of 8 bits in the same way.
+#[must_use]
 #[doc(hidden)]
 pub fn extend_u8(previous: Option<u64>, id: u8) -> u64 {
     match previous {
@@ -242,6 +253,7 @@ pub fn extend_u8(previous: Option<u64>, id: u8) -> u64 {
 }
 
 /// Extends an id of 15 bits in the same way.
+#[must_use]
 #[doc(hidden)]
 pub fn extend_u15(previous: Option<u64>, id: u16) -> u64 {
     match previous {
@@ -251,6 +263,7 @@ pub fn extend_u15(previous: Option<u64>, id: u16) -> u64 {
 }
 
 /// Extends a number of 32 bits, such as an RTP time, in the same way.
+#[must_use]
 #[doc(hidden)]
 pub fn extend_u32(previous: Option<u64>, number: u32) -> u64 {
     match previous {

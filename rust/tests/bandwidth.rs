@@ -20,9 +20,11 @@ const KINDS: [PacedKind; 4] = [
 /// One schedule of a pacer: in each interval no more leaves than the rate carries, the burst and one packet; packets leave by kind, then
 /// first come first served; the bound of the queue holds, and at the end everything leaves.
 fn schedule(dice: &mut Dice) {
-    let settings = PacerSettings {
-        burst: dice.below(3_000) as u32,
-        bound: 2_000 + dice.below(30_000),
+    let settings = {
+        let mut settings = PacerSettings::live();
+        settings.burst = dice.below(3_000) as u32;
+        settings.bound = 2_000 + dice.below(30_000);
+        settings
     };
     let mut rate = dice.below(2_000_000);
     let mut now = dice.below(1 << 40);
@@ -99,13 +101,12 @@ fn packets_leave_by_the_rate() {
 
 #[test]
 fn a_rate_of_zero_sends_the_burst_alone() {
-    let mut pacer = Pacer::new(
-        0,
-        PacerSettings {
-            burst: 1_000,
-            bound: 10_000,
-        },
-    );
+    let mut pacer = Pacer::new(0, {
+        let mut settings = PacerSettings::live();
+        settings.burst = 1_000;
+        settings.bound = 10_000;
+        settings
+    });
     for id in 0..8 {
         let kind = PacedKind::Media;
         pacer
@@ -131,9 +132,11 @@ fn a_rate_of_zero_sends_the_burst_alone() {
 
 #[test]
 fn the_largest_values() {
-    let settings = PacerSettings {
-        burst: u32::MAX,
-        bound: u64::MAX,
+    let settings = {
+        let mut settings = PacerSettings::live();
+        settings.burst = u32::MAX;
+        settings.bound = u64::MAX;
+        settings
     };
     let mut pacer = Pacer::new(u64::MAX, settings);
     let packet = PacedPacket {
@@ -148,13 +151,12 @@ fn the_largest_values() {
     assert_eq!(pacer.pop(Ticks(0)), Some(packet));
     assert_eq!(pacer.pop(Ticks(0)), None);
     assert_eq!(pacer.pop(Ticks(u64::MAX)), Some(packet));
-    assert_eq!(
-        PacerSettings::live(),
-        PacerSettings {
-            burst: 2_500,
-            bound: 250_000
-        }
-    );
+    assert_eq!(PacerSettings::live(), {
+        let mut settings = PacerSettings::live();
+        settings.burst = 2_500;
+        settings.bound = 250_000;
+        settings
+    });
 }
 
 /// Random calls of a limit, beside the lists of what was sent and retransmitted.
@@ -164,9 +166,11 @@ fn resends_are_a_share() {
     let (mut allowed, mut refused) = (0u32, [0u32; 3]);
     for _ in 0..3_000 {
         let half_window = 1 + dice.below(1_000);
-        let settings = ResendSettings {
-            share: dice.below(2_000) as u32,
-            half_window,
+        let settings = {
+            let mut settings = ResendSettings::live();
+            settings.share = dice.below(2_000) as u32;
+            settings.half_window = half_window;
+            settings
         };
         let mut limit = ResendLimit::new(settings);
         let mut now = dice.below(1 << 30);
@@ -283,7 +287,14 @@ fn choices_that_fit() {
 #[test]
 fn the_choice_rises_after_a_pause() {
     let ladder = [100_000, 300_000, 900_000].map(|rate| LayerChoice { rate, begin: 0 });
-    let mut chooser = LayerChooser::new(LayerSettings { pause: 1_000 }, 9);
+    let mut chooser = LayerChooser::new(
+        {
+            let mut settings = LayerSettings::live();
+            settings.pause = 1_000;
+            settings
+        },
+        9,
+    );
     // An index beyond the list is one of all choices.
     assert_eq!(chooser.choose(Ticks(10), 400_000, &ladder), 1);
     assert_eq!(chooser.wanted(1, &ladder), 972_000);
@@ -311,5 +322,9 @@ fn the_choice_rises_after_a_pause() {
         }),
         u64::MAX
     );
-    assert_eq!(LayerSettings::live(), LayerSettings { pause: 2_000_000 });
+    assert_eq!(LayerSettings::live(), {
+        let mut settings = LayerSettings::live();
+        settings.pause = 2_000_000;
+        settings
+    });
 }

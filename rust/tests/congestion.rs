@@ -144,11 +144,12 @@ fn numbered(number: u16) -> Vec<u8> {
 }
 
 fn reporter(size: usize) -> TransportReporter {
-    TransportReporter::new(TransportSettings {
-        extension_id: 5,
-        interval: 100,
-        size,
-        window: 2_048,
+    TransportReporter::new({
+        let mut settings = TransportSettings::live(5);
+        settings.interval = 100;
+        settings.size = size;
+        settings.window = 2_048;
+        settings
     })
     .unwrap()
 }

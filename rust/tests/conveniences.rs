@@ -20,13 +20,11 @@ fn sender(codec: Codec, mtu: usize) -> Sender {
 
 fn receiver(codec: Codec) -> Receiver {
     let depacketizer = CodecDepacketizer::from_codec(codec).unwrap();
-    Receiver::new(
-        depacketizer,
-        ReceiverSettings {
-            ssrc: Some(7),
-            ..ReceiverSettings::for_stream(96, codec, Frequency::NINETY_KHZ)
-        },
-    )
+    Receiver::new(depacketizer, {
+        let mut settings = ReceiverSettings::for_stream(96, codec, Frequency::NINETY_KHZ);
+        settings.ssrc = Some(7);
+        settings
+    })
     .unwrap()
 }
 
@@ -101,10 +99,11 @@ fn windows_by_rate() -> Result<(), Box<dyn Error>> {
     assert_eq!((video.forward, video.backward), of(1_000));
     for packets_per_second in 0..3_000 {
         let (forward, backward) = of(packets_per_second);
-        let settings = ReceiverSettings {
-            forward,
-            backward,
-            ..ReceiverSettings::live_video(96, rate)
+        let settings = {
+            let mut settings = ReceiverSettings::live_video(96, rate);
+            settings.forward = forward;
+            settings.backward = backward;
+            settings
         };
         let depacketizer = CodecDepacketizer::from_codec(Codec::Vp8).ok_or("no depacketizer")?;
         let _: Receiver = Receiver::new(depacketizer, settings)?;

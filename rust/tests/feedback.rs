@@ -176,10 +176,11 @@ fn a_keyframe_on_its_way_is_not_requested_again() {
 /// 70,000 numbers are missing; each NACK fits into a packet, and no number is requested twice.
 #[test]
 fn any_capacity_fits_into_a_packet() {
-    let settings = NackSettings {
-        capacity: usize::MAX,
-        tries: 1,
-        ..NackSettings::live()
+    let settings = {
+        let mut settings = NackSettings::live();
+        settings.capacity = usize::MAX;
+        settings.tries = 1;
+        settings
     };
     let mut requests = StreamRequests::new(MEDIA, settings, 500);
     let missing: Vec<u64> = (0..140_000).step_by(2).collect();

@@ -39,10 +39,12 @@ struct Run {
 impl Run {
     /// A jitter buffer that got the packets of the former sender.
     fn of_former(new_time: u32) -> Run {
-        let limits = WaitLimits {
-            max_wait: None,
-            hold_back: None,
-            start: 0,
+        let limits = {
+            let mut limits = WaitLimits::live();
+            limits.max_wait = None;
+            limits.hold_back = None;
+            limits.start = 0;
+            limits
         };
         let depacketizer = CodecDepacketizer::from_codec(Codec::Opus).unwrap();
         let buffer = DepacketizingBuffer::new(depacketizer, 0);

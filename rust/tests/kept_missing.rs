@@ -15,10 +15,12 @@ fn jitter_buffer(limit: usize) -> JitterBuffer {
         SequenceNumbers::with_windows(300, 100).unwrap(),
         DepacketizingBuffer::with_limit(depacketizer, 5, limit),
         Frequency::NINETY_KHZ,
-        WaitLimits {
-            max_wait: Some(100),
-            hold_back: Some(3),
-            start: 0,
+        {
+            let mut limits = WaitLimits::live();
+            limits.max_wait = Some(100);
+            limits.hold_back = Some(3);
+            limits.start = 0;
+            limits
         },
     )
 }

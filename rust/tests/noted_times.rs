@@ -60,10 +60,12 @@ fn header(number: u64, time: u32) -> RtpHeader {
 }
 
 fn compare(forward: u16, backward: u16, spacing: u64, places: u64, longest: u64) {
-    let limits = WaitLimits {
-        max_wait: None,
-        hold_back: None,
-        start: 0,
+    let limits = {
+        let mut limits = WaitLimits::live();
+        limits.max_wait = None;
+        limits.hold_back = None;
+        limits.start = 0;
+        limits
     };
     let depacketizer = CodecDepacketizer::from_codec(Codec::Opus).unwrap();
     let buffer = DepacketizingBuffer::new(depacketizer, 0);

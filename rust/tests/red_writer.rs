@@ -98,14 +98,15 @@ fn a_receiver_recovers_lost_packets() -> Result<(), Fail> {
     let opus = CodecPacketizer::from_codec(Codec::Opus).ok_or("no packetizer")?;
     let mut sender: Sender = Sender::new(opus, SenderSettings::for_stream(111, 7, RATE))?;
     let mut writer = RedWriter::new(63, 111, &[1, 2], 1_189)?;
-    let settings = ReceiverSettings {
-        ssrc: Some(7),
-        red: Some(RedSettings {
+    let settings = {
+        let mut settings = ReceiverSettings::for_stream(111, Codec::Opus, RATE);
+        settings.ssrc = Some(7);
+        settings.red = Some(RedSettings {
             payload_type: 63,
             step: 960,
             retransmission: None,
-        }),
-        ..ReceiverSettings::for_stream(111, Codec::Opus, RATE)
+        });
+        settings
     };
     let opus = CodecDepacketizer::from_codec(Codec::Opus).ok_or("no depacketizer")?;
     let mut receiver: Receiver = Receiver::new(opus, settings)?;

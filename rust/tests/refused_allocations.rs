@@ -17,7 +17,7 @@ use codec_payload::media::av1::{Av1SequenceHeader, front_obu, write_av1c};
 use codec_payload::rtp::{ExtensionIds, RtpPacket};
 use codec_payload::sender::{Sample, Sender, SenderSettings};
 use codec_payload::session::{
-    Arrival, Event, FeedbackSettings, Format, Session, SessionSettings, SsrcPair,
+    Arrival, Event, FeedbackSettings, Session, SessionSettings, SsrcPair,
 };
 use codec_payload::stream::{ReceiveError, Receiver, ReceiverSettings, RedSettings};
 use codec_payload::*;
@@ -460,9 +460,10 @@ fn restarts_lose_no_packet() {
 
 #[test]
 fn values_and_media() {
-    let ids = ExtensionIds {
-        video_orientation: Some(1),
-        ..ExtensionIds::default()
+    let ids = {
+        let mut ids = ExtensionIds::default();
+        ids.video_orientation = Some(1);
+        ids
     };
     let values = ExtensionValues {
         video_orientation: Some(3),
@@ -490,15 +491,17 @@ fn values_and_media() {
 /// A session that requests what its streams miss, under a name.
 fn requesting() -> Session {
     let mut settings = SessionSettings::live();
-    settings.formats.push(Format {
-        nack: true,
-        retransmission: Some(97),
-        ..opus_format()
+    settings.formats.push({
+        let mut format = opus_format();
+        format.nack = true;
+        format.retransmission = Some(97);
+        format
     });
-    settings.feedback = Some(FeedbackSettings {
-        cname: vec![b'n'; 20],
-        has_report: true,
-        ..FeedbackSettings::live(1, b"me@host".to_vec())
+    settings.feedback = Some({
+        let mut settings = FeedbackSettings::live(1, b"me@host".to_vec());
+        settings.cname = vec![b'n'; 20];
+        settings.has_report = true;
+        settings
     });
     Session::new(settings).expect("settings that can be met")
 }
@@ -548,7 +551,7 @@ fn requests_of_a_session() {
         || {
             let mut session = received();
             for _ in 0..3 {
-                session.poll(Ticks(0));
+                let _ = session.poll(Ticks(0));
             }
             session
         },
@@ -631,10 +634,11 @@ impl Life {
             retransmission: 50,
         }];
         settings.max_streams = 3;
-        settings.feedback = Some(FeedbackSettings {
-            cname: vec![b'n'; 20],
-            has_report: true,
-            ..FeedbackSettings::live(1, b"me@host".to_vec())
+        settings.feedback = Some({
+            let mut settings = FeedbackSettings::live(1, b"me@host".to_vec());
+            settings.cname = vec![b'n'; 20];
+            settings.has_report = true;
+            settings
         });
         Life {
             session: Session::new(settings).expect("settings that can be met"),

@@ -66,9 +66,10 @@ fn the_same_numbers_again_keep_their_times() {
 
 #[test]
 fn the_capacity_applies_to_the_same_numbers_again() {
-    let mut schedule = NackSchedule::new(NackSettings {
-        capacity: 2,
-        ..NackSettings::live()
+    let mut schedule = NackSchedule::new({
+        let mut settings = NackSettings::live();
+        settings.capacity = 2;
+        settings
     });
     schedule.refresh(Ticks(0), &[5, 6]).unwrap();
     schedule.refresh(Ticks(1), &[5, 6, 7]).unwrap();
@@ -178,10 +179,11 @@ fn a_second_request_does_not_shorten_the_round_trip() {
 
 #[test]
 fn the_lowest_numbers_are_followed_up_to_the_capacity() {
-    let settings = NackSettings {
-        capacity: 2,
-        first_wait: 0,
-        ..NackSettings::live()
+    let settings = {
+        let mut settings = NackSettings::live();
+        settings.capacity = 2;
+        settings.first_wait = 0;
+        settings
     };
     let mut schedule = NackSchedule::new(settings);
     schedule.refresh(Ticks(0), &[3, 3, 8, 5, 9]).unwrap();
@@ -202,13 +204,15 @@ fn no_request_comes_after_the_end_of_the_clock() {
 #[test]
 fn settings_of_zero_request_nothing() {
     for settings in [
-        NackSettings {
-            tries: 0,
-            ..NackSettings::live()
+        {
+            let mut settings = NackSettings::live();
+            settings.tries = 0;
+            settings
         },
-        NackSettings {
-            capacity: 0,
-            ..NackSettings::live()
+        {
+            let mut settings = NackSettings::live();
+            settings.capacity = 0;
+            settings
         },
     ] {
         let mut schedule = NackSchedule::new(settings);

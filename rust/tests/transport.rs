@@ -145,11 +145,12 @@ fn datagrams_without_room_get_no_number() {
 #[test]
 fn a_report_is_read_by_the_sender() -> Result<(), Fail> {
     let mut sent = SentPackets::new(100)?;
-    let mut reporter = TransportReporter::new(TransportSettings {
-        extension_id: 5,
-        interval: 100,
-        size: 1_100,
-        window: 2_048,
+    let mut reporter = TransportReporter::new({
+        let mut settings = TransportSettings::live(5);
+        settings.interval = 100;
+        settings.size = 1_100;
+        settings.window = 2_048;
+        settings
     })?;
     let plain = [0x80, 96, 0, 1, 0, 0, 0, 2, 0, 0, 0, 7, 1];
     for at in 0..20u64 {

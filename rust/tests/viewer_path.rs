@@ -201,3 +201,53 @@ fn strangers_change_nothing() {
         assert_eq!(path.estimate(), estimate);
     }
 }
+
+/// Two paths send the same 40 packets. To one the feedback says more: times of packets that did not leave.
+#[test]
+fn statuses_behind_all_packets_change_nothing() {
+    let mut dice = Dice(9);
+    for _ in 0..200 {
+        let paths = [0, 1].map(|_| ViewerPath::new(Ticks(0), PathSettings::live()).unwrap());
+        let [mut one, mut other] = paths;
+        let mut sent = 0;
+        for round in 0..20_u64 {
+            let now = Ticks(round * 100_000);
+            for path in [&mut one, &mut other] {
+                let packet = PacedPacket {
+                    kind: PacedKind::Media,
+                    id: round,
+                    size: 300,
+                };
+                path.push(packet).unwrap();
+                path.push(packet).unwrap();
+            }
+            while let Some(leaving) = one.pop(now) {
+                assert_eq!(other.pop(now), Some(leaving));
+                sent += 1;
+            }
+            let base = sent - dice.below(3.min(sent as u64 + 1)) as usize;
+            let mut statuses: Vec<_> = (base..sent)
+                .map(|at| Some((1 << 34) + at as u64 * 400))
+                .collect();
+            one.feedback(now, 1, &feedback(base, &statuses)).unwrap();
+            statuses.extend((0..dice.below(50)).map(|_| Some(dice.below(1 << 32))));
+            other.feedback(now, 1, &feedback(base, &statuses)).unwrap();
+            let layers = [
+                LayerChoice {
+                    rate: 100_000,
+                    begin: 0,
+                },
+                LayerChoice {
+                    rate: 400_000,
+                    begin: 0,
+                },
+            ];
+            assert_eq!(one.choose(now, &layers), other.choose(now, &layers));
+            assert_eq!(
+                (one.estimate(), one.next_deadline()),
+                (other.estimate(), other.next_deadline())
+            );
+        }
+        assert_eq!(sent, 40);
+    }
+}

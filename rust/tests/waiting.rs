@@ -30,9 +30,10 @@ fn the_limit_is_five_quarters_of_the_greatest_age() {
 fn the_limit_stays_within_its_bounds() {
     assert_eq!(after(&[0; 8]).limit(), 20);
     assert_eq!(after(&[900; 8]).limit(), 400);
-    let settings = AdaptiveWaitSettings {
-        longest: 10,
-        ..AdaptiveWaitSettings::live()
+    let settings = {
+        let mut settings = AdaptiveWaitSettings::live();
+        settings.longest = 10;
+        settings
     };
     assert_eq!(AdaptiveWait::new(settings).limit(), 10);
 }

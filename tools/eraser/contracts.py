@@ -8,12 +8,17 @@ from tokens import Refused, angles, close, elements, plain, tokens
 
 
 # What types derive in Rust in addition: their `clone` cannot fail, and `str0m` derives these.
-MORE = {"PacketError": ["Clone", "Copy"], "Depacketized": ["Clone"], "RedundantBlock": ["Clone", "PartialEq", "Eq"], "Vp9Depacketizer": ["Clone"],
+MORE = {"FeedbackSettings": ["PartialEq", "Eq"], "PacketError": ["Clone", "Copy"], "SessionSettings": ["PartialEq", "Eq"], "Settings": ["PartialEq", "Eq"],
+        "Depacketized": ["Clone"], "RedundantBlock": ["Clone", "PartialEq", "Eq"], "Vp9Depacketizer": ["Clone"],
         "OutgoingPacket": ["Clone"], "PiecesPacketizer": ["Copy"], "Vp8Packetizer": ["Copy"],
         "Vp8DescriptorError": ["Copy"], "Vp8PatchError": ["Copy"]}
 
 # Enums that later versions may extend: outside of the crate a match needs an arm for the rest.
 GROWING = {"Arrival", "Codec", "CodecExtra", "Ending", "Event", "Forwarded", "Outcome", "Request", "Stage"}
+
+# Settings, which get new fields in later versions: outside of the crate they begin with a constructor, and fields are set one by one.
+SETTINGS = {"AdaptiveWaitSettings", "ExtensionIds", "FeedbackSettings", "Format", "LayerSettings", "NackSettings", "PacerSettings", "PathSettings",
+            "ResendSettings", "SessionSettings", "Settings", "StreamNameIds", "TransportSettings", "WaitLimits"}
 
 # Types that only the crate's own modules pass to one another: crate and name.
 INNER = {("buffer", "CompleteFrame"), ("buffer", "Incoming"), ("jitter", "KeptPacket"), ("buffer", "Left"), ("jitter", "NotedTime"),
@@ -133,10 +138,10 @@ def trim_derive(f, i, k):
         f.refuse(t, f"derives {bad}")
     # Types that Rattle leaves without `Debug`, since no proof needs it, have it in Rust.
     names = [n for n in names if n != "Drop"] + ["Debug"] * ("Debug" not in names and not has_own_debug(f, end))
-    names += [n for n in MORE.get(type_behind(f, end), []) if n not in names]
+    names += [n for n in MORE.get(type_behind(f, end), []) if n not in names and f.has_users]
     if names:
         name = type_behind(f, end)
-        grows = f"\n{may_grow(f)}" if name in GROWING else "\n#[doc(hidden)]" if is_inner(f, name) else ""
+        grows = f"\n{may_grow(f)}" if name in GROWING or (name in SETTINGS and f.has_users) else "\n#[doc(hidden)]" if is_inner(f, name) else ""
         f.ts[k + 2:end + 1] = tokens("(%s)]%s" % (", ".join(names), grows))[:-1]
         return close(f.ts, k)
     pre = t.pre

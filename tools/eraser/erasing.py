@@ -6,6 +6,7 @@ import errors
 import forms
 import paths
 import portable
+from results import mark_results
 from layout import CONSTANT_FUNCTIONS
 from tokens import joined, plain, tokens
 
@@ -29,6 +30,8 @@ def erase(f, crate, module, passed_on, has_memory=False):
     forms.default_bodies(f)
     forms.unit_literals(f)
     forms.mark_unused(f)
+    if f.is_library and f.has_users:
+        mark_results(f)
     paths.rename_types(f, crate, module)
     paths.move_paths(f, crate, root, passed_on)
     paths.std_paths(f, without_std)

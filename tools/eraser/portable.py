@@ -13,6 +13,17 @@ COUNTS = {
     ("codec_payload_sending/src/sender.rt", "out.get(place).len()"),
     ("codec_payload_sending/src/sender.rt", "count"),
 }
+# Functions that Rust can call in constants too: file below `crates`, and names. So settings may be constants of a program.
+IN_CONSTANTS = {
+    "codec_payload_bandwidth_layers/src/chooser.rt": {"live"},
+    "codec_payload_bandwidth_pacer/src/pacer.rt": {"live"},
+    "codec_payload_bandwidth_pacer/src/resends.rt": {"live"},
+    "codec_payload_bandwidth_path/src/path.rt": {"live"},
+    "codec_payload_feedback/src/transport.rt": {"live"},
+    "codec_payload_feedback_requests/src/nack.rt": {"live"},
+    "codec_payload_feedback_wait/src/adaptive_wait.rt": {"live"},
+    "codec_payload_jitter/src/waiting.rt": {"file", "for_live", "live", "live_video_with_nack", "live_with_nack"},
+}
 TWO_TO_32 = ("( 1 < < 32 )", "4_294_967_296 )")
 
 
@@ -21,6 +32,16 @@ def be_portable(f):
     nest_lets(f)
     cast_signs(f)
     widen_counts(f)
+    be_constant(f)
+
+
+def be_constant(f):
+    """Marks the functions that constants may call."""
+    names = IN_CONSTANTS.get(f.path.split("crates/")[-1], ())
+    for i in range(len(f.ts) - 2, -1, -1):
+        if f.ts[i].text == "fn" and f.ts[i + 1].text in names:
+            f.ts.insert(i, Token(f.ts[i].pre, "const", "word", f.ts[i].line))
+            f.ts[i + 1].pre = " "
 
 
 def place(f, ts):

@@ -1,5 +1,6 @@
 -- What the calls of a path are for its pacer and for its limit.
-use Rattle.std.proofs.Common.{◌≡◌, ◌≤◌, ◌∙◌, refl, sym, ap, subst, subst₂, ℕ, ◌+◌, ◌*◌, Bool, true, false, if◌then◌else◌, List, [], ◌∷◌, ◌++◌, Option, Some, None, arith}
+use Rattle.std.proofs.Common.{◌≡◌, ◌≤◌, ◌∙◌, refl, sym, ap, subst, ℕ, ◌+◌, ◌-◌, ◌*◌, max, drop, Bool, true, false, List, [], ◌∷◌, ◌++◌, length, Option, Some, None, arith}
+use Rattle.std.proofs.lemmas.List.{take-append-le}
 use Rattle.codec_payload_bandwidth_pacer.proofs.RunLemmas.{leaves_by_the_rate}
 use Rattle.codec_payload_bandwidth_pacer.proofs.ShareLemmas.{resends_are_shared}
 use Rattle.codec_payload_bandwidth_pacer.specs.Pacing.{Pacing, after_pop as pacer_after, bits_of, filled, next_of}
@@ -7,9 +8,9 @@ use Rattle.codec_payload_bandwidth_pacer.specs.Resending.{Limit, after_resend, a
 use Rattle.codec_payload_bandwidth_pacer.specs.ResendRuns.{Call as LimitCall, after_calls as limit_after, resent_by, resent_bytes, sent_in}
 use Rattle.codec_payload_bandwidth_pacer.specs.Runs.{carried_by, last_size, left_by as pacer_left, sizes, with_packet}
 use Rattle.codec_payload_bandwidth_pacer.specs.declared.pacer.PacedPacket.{PacedPacket}
-use Rattle.codec_payload_bandwidth_path.specs.Paths.{Path, after_pop, is_first, limit_with, new_path, with_leaving}
-use Rattle.codec_payload_bandwidth_path.specs.PathRuns.{Call, LeavesByThePace, LimitsByCalls, ResendsByTheShare, StrangersChangeNothing, after_call, after_calls, choose, feedback, left_by, limit_calls, limit_calls_of, pacer_calls, pop, push, remove, resend, sent_call}
-use Rattle.codec_payload_bandwidth_path.specs.declared.path.PathSettings.{PathSettings}
+use Rattle.codec_payload_bandwidth_path.specs.Departures.{Departed, clock_by, counted_of, departed_in, index_near, last_time, open_index, reported_fates, unknown_fates}
+use Rattle.codec_payload_bandwidth_path.specs.Paths.{Path, after_feedback, after_pop, estimate_by, is_first, limit_with, new_path, with_leaving}
+use Rattle.codec_payload_bandwidth_path.specs.PathRuns.{Call, LeavesByThePace, LimitsByCalls, PacketsBehindChangeNothing, ResendsByTheShare, StrangersChangeNothing, after_call, after_calls, choose, feedback, left_by, limit_calls, limit_calls_of, pacer_calls, pop, push, remove, resend, sent_call}
 
 -- ---- the pacer
 
@@ -76,3 +77,28 @@ resends_by_the_share now settings calls =
 
 pub strangers_change_nothing : StrangersChangeNothing
 strangers_change_nothing p now round_trip base statuses none = rw none refl
+
+-- the statuses of packets that left are the same
+behind_counts_not : (first : ℕ) (statuses behind : List (Option ℕ)) (d : Departed) → d.count ≤ first + length statuses
+    → counted_of first (statuses ++ behind) d ≡ counted_of first statuses d
+behind_counts_not first statuses behind d most = take-append-le (d.count - first) statuses behind (omega (arith, most))
+
+-- a path after a feedback that begins with the packet with this index, by the statuses of packets that left
+abbrev path_after : (now round_trip base : ℕ) → List (Option ℕ) → Path → Path
+path_after now round_trip base counted p = record p {
+  estimator = estimate_by now round_trip
+      (unknown_fates (departed_in (open_index p.departures) (max base (open_index p.departures)) p.departures)
+      ++ reported_fates p.departures.clock (departed_in (max base (open_index p.departures)) p.departures.count p.departures) (drop (max base (open_index p.departures) - base) counted))
+      p.estimator;
+  departures = record p.departures { counted = max p.departures.counted (base + length counted); clock = clock_by p.departures.clock (last_time counted) };
+}
+
+after_is : (p : Path) (now round_trip base first : ℕ) (statuses : List (Option ℕ)) → index_near base p.departures.count ≡ Some first
+    → after_feedback now round_trip base statuses p ≡ path_after now round_trip first (counted_of first statuses p.departures) p
+after_is p now round_trip base first statuses is = rw is refl
+
+pub packets_behind_change_nothing : PacketsBehindChangeNothing
+packets_behind_change_nothing p now round_trip base first statuses behind is most =
+    after_is p now round_trip base first (statuses ++ behind) is
+    ∙ (ap (λ (counted : List (Option ℕ)). path_after now round_trip first counted p) (behind_counts_not first statuses behind p.departures most)
+    ∙ sym (after_is p now round_trip base first statuses is))

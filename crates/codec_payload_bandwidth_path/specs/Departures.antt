@@ -1,22 +1,22 @@
 -- The packets that left on a path, and what feedback says of them. Times are in microseconds, those of the receiver's clock in quarters
 -- of a millisecond.
-use Rattle.std.specs.Prelude.{◌≡◌, ℕ, ◌+◌, ◌-◌, ◌*◌, ◌%◌, ◌^◌, ◌==◌, max, min, nat_le, nat_lt, if◌then◌else◌, List, [], ◌∷◌, ◌++◌, map, drop, take, length, Option, Some, None}
+use Rattle.std.specs.Prelude.{ℕ, ◌+◌, ◌-◌, ◌*◌, ◌%◌, ◌^◌, ◌==◌, max, min, nat_le, nat_lt, if◌then◌else◌, List, [], ◌∷◌, ◌++◌, map, drop, take, length, Option, Some, None}
+use Rattle.codec_payload_base.specs.Extended.{extended}
 use Rattle.codec_payload_bandwidth_estimator.specs.declared.estimator.PacketFate.{PacketFate}
 use Rattle.codec_payload_bandwidth_estimator.specs.declared.estimator.PacketOutcome.{PacketOutcome}
 use Rattle.codec_payload_bandwidth_estimator.specs.declared.estimator.PacketOutcome.TheVariants as outcomes
 use Rattle.codec_payload_bandwidth_path.specs.declared.departures.Departure.{Departure}
-use Rattle.codec_payload_bandwidth_path.specs.declared.departures.ReceiverTime.{ReceiverTime}
 
--- how many packets left, the latest of them, the latest one last; no more feedback counts of packets with indices below `told`; and the
--- latest time that a feedback had
+-- how many packets left; the latest of them, the latest one last; the index below which feedback has counted; and the latest time of the
+-- receiver's clock, which begins at 2^34, so that no time is below 0
 pub record Departed : Type 0 where
   pub count : ℕ
   pub latest : List Departure
-  pub told : ℕ
-  pub clock : Option ReceiverTime
+  pub counted : ℕ
+  pub clock : ℕ
 
 abbrev pub no_departures : Departed
-no_departures = record { count = 0; latest = []; told = 0; clock = None }
+no_departures = record { count = 0; latest = []; counted = 0; clock = 17179869184 }
 
 -- ---- a packet leaves
 
@@ -42,7 +42,7 @@ index_near base count = if nat_lt (back_of base count) count then Some (count - 
 
 -- the lowest index of a packet of which feedback may still say something
 abbrev pub open_index : Departed → ℕ
-open_index d = max d.told (first_index d)
+open_index d = max d.counted (first_index d)
 
 abbrev pub no_departure : Departure
 no_departure = record { at = 0; size = 0 }
@@ -51,25 +51,18 @@ no_departure = record { at = 0; size = 0 }
 abbrev pub departed_in : (from to : ℕ) → Departed → List Departure
 departed_in from to d = take (to - from) (drop (from - first_index d) d.latest)
 
--- ---- times of the receiver
-
--- the nearest time to the latest one before; the first one is 2^34
-abbrev pub receiver_time : Option ReceiverTime → ℕ → ReceiverTime
-receiver_time None low = record { low = low; whole = 17179869184 }
-receiver_time (Some clock) low = record {
-  low = low;
-  whole =
-      if nat_lt ((low + 2 ^ 32 - clock.low) % 2 ^ 32) 2147483648 then min (clock.whole + (low + 2 ^ 32 - clock.low) % 2 ^ 32) (2 ^ 64 - 1)
-      else clock.whole - (clock.low + 2 ^ 32 - low) % 2 ^ 32;
-}
-
 -- ---- what feedback says
 
-abbrev pub outcome_by : Option ReceiverTime → Option ℕ → PacketOutcome
-outcome_by clock None = outcomes.Lost
-outcome_by clock (Some low) = outcomes.Arrived (min ((receiver_time clock low).whole * 250) (2 ^ 64 - 1))
+-- of the statuses of a feedback that begins with the packet with this index, those of packets that left
+abbrev pub counted_of : ℕ → List (Option ℕ) → Departed → List (Option ℕ)
+counted_of base statuses d = take (d.count - base) statuses
 
-abbrev pub fate_by : Option ReceiverTime → Departure → Option ℕ → PacketFate
+-- a time of 32 bits is the nearest one to the latest time before
+abbrev pub outcome_by : ℕ → Option ℕ → PacketOutcome
+outcome_by clock None = outcomes.Lost
+outcome_by clock (Some low) = outcomes.Arrived (min (extended (2 ^ 32) (Some clock) low * 250) (2 ^ 64 - 1))
+
+abbrev pub fate_by : ℕ → Departure → Option ℕ → PacketFate
 fate_by clock d status = record { sent = d.at; size = d.size; outcome = outcome_by clock status }
 
 abbrev pub unknown_fate : Departure → PacketFate
@@ -79,17 +72,16 @@ abbrev pub unknown_fates : List Departure → List PacketFate
 unknown_fates ds = map unknown_fate ds
 
 -- each packet with its status
-abbrev pub fates_said : Option ReceiverTime → List Departure → List (Option ℕ) → List PacketFate
-fates_said clock [] statuses = []
-fates_said clock (d ∷ ds) [] = []
-fates_said clock (d ∷ ds) (status ∷ statuses) = fate_by clock d status ∷ fates_said clock ds statuses
+abbrev pub reported_fates : ℕ → List Departure → List (Option ℕ) → List PacketFate
+reported_fates clock [] statuses = []
+reported_fates clock (d ∷ ds) [] = []
+reported_fates clock (d ∷ ds) (status ∷ statuses) = fate_by clock d status ∷ reported_fates clock ds statuses
 
--- a feedback that begins with the packet with this index: the packets before it of which no feedback was heard are unknown, and of
--- its packets those count of which none was heard
+-- the packets before this feedback of which no feedback was heard are unknown; of its own packets those count of which none was heard
 abbrev pub fates_from : ℕ → List (Option ℕ) → Departed → List PacketFate
 fates_from base statuses d =
     unknown_fates (departed_in (open_index d) (max base (open_index d)) d)
-    ++ fates_said d.clock (departed_in (max base (open_index d)) d.count d) (drop (max base (open_index d) - base) statuses)
+    ++ reported_fates d.clock (departed_in (max base (open_index d)) d.count d) (drop (max base (open_index d) - base) (counted_of base statuses d))
 
 abbrev pub fates_by : Option ℕ → List (Option ℕ) → Departed → List PacketFate
 fates_by None statuses d = []
@@ -99,25 +91,22 @@ fates_by (Some base) statuses d = fates_from base statuses d
 abbrev pub fates_of : ℕ → List (Option ℕ) → Departed → List PacketFate
 fates_of base statuses d = fates_by (index_near base d.count) statuses d
 
--- the time of the last packet that arrived
-abbrev pub said_or : Option ℕ → Option ℕ → Option ℕ
-said_or None before = before
-said_or (Some low) before = Some low
+-- the time of the last packet that arrived: one of those behind the first packet, or else its own
+abbrev pub time_or : Option ℕ → Option ℕ → Option ℕ
+time_or None own = own
+time_or (Some behind) own = Some behind
 
-abbrev pub last_from : Option ℕ → List (Option ℕ) → Option ℕ
-last_from last [] = last
-last_from last (status ∷ statuses) = last_from (said_or status last) statuses
+abbrev pub last_time : List (Option ℕ) → Option ℕ
+last_time [] = None
+last_time (status ∷ statuses) = time_or (last_time statuses) status
 
-abbrev pub last_said : List (Option ℕ) → Option ℕ
-last_said statuses = last_from None statuses
-
-abbrev pub clock_by : Option ReceiverTime → Option ℕ → Option ReceiverTime
+abbrev pub clock_by : ℕ → Option ℕ → ℕ
 clock_by clock None = clock
-clock_by clock (Some low) = Some (receiver_time clock low)
+clock_by clock (Some low) = extended (2 ^ 32) (Some clock) low
 
 abbrev pub heard_from : ℕ → List (Option ℕ) → Departed → Departed
 heard_from base statuses d =
-    record d { told = max d.told (min (min (base + length statuses) (2 ^ 64 - 1)) d.count); clock = clock_by d.clock (last_said statuses) }
+    record d { counted = max d.counted (base + length (counted_of base statuses d)); clock = clock_by d.clock (last_time (counted_of base statuses d)) }
 
 abbrev pub heard_by : Option ℕ → List (Option ℕ) → Departed → Departed
 heard_by None statuses d = d

@@ -1,5 +1,5 @@
 -- Runs of calls of a path, the first one first.
-use Rattle.std.specs.Prelude.{◌≡◌, ℕ, ◌+◌, ◌*◌, ◌≤◌, max, if◌then◌else◌, List, [], ◌∷◌, ◌++◌, Option, Some, None}
+use Rattle.std.specs.Prelude.{◌≡◌, ℕ, ◌+◌, ◌*◌, ◌≤◌, max, if◌then◌else◌, List, [], ◌∷◌, ◌++◌, length, Option, Some, None}
 use Rattle.codec_payload_bandwidth_estimator.specs.Estimates.{pace_of}
 use Rattle.codec_payload_bandwidth_layers.specs.declared.chooser.LayerChoice.{LayerChoice}
 use Rattle.codec_payload_bandwidth_pacer.specs.Pacing.{bits_of, filled, next_of, pushed, removed}
@@ -115,3 +115,9 @@ LimitsByCalls =
 abbrev pub StrangersChangeNothing : Type 0
 StrangersChangeNothing =
     (p : Path) (now round_trip base : ℕ) (statuses : List (Option ℕ)) → index_near base p.departures.count ≡ None → after_feedback now round_trip base statuses p ≡ p
+
+-- What feedback says of packets behind all that left changes nothing
+abbrev pub PacketsBehindChangeNothing : Type 0
+PacketsBehindChangeNothing =
+    (p : Path) (now round_trip base first : ℕ) (statuses behind : List (Option ℕ)) → index_near base p.departures.count ≡ Some first
+    → p.departures.count ≤ first + length statuses → after_feedback now round_trip base (statuses ++ behind) p ≡ after_feedback now round_trip base statuses p

@@ -48,6 +48,9 @@ impl PathSettings {
         ensures least { result.least ≡ 50000 }
         ensures most { result.most ≡ 10000000 }
         ensures choice { result.choice ≡ 0 }
+        ensures pacer { result.pacer ≡ record { burst = 2500; bound = 250000 } }
+        ensures resends { result.resends ≡ record { share = 250; half_window = 500000 } }
+        ensures layers { result.layers ≡ record { pause = 2000000 } }
     {
         PathSettings {
             start: 300_000,
@@ -69,7 +72,7 @@ pub struct Leaving {
     pub number: u16,
 }
 
-/// What [`ViewerPath::choose`] says.
+/// What [`ViewerPath::choose`] returns.
 #[derive(Clone, Copy, Debug, PartialEq, Eq)]
 pub struct PathOrder {
     /// The index of the choice of layers that the viewer gets.
@@ -101,7 +104,7 @@ pub struct ViewerPath {
     fill: u128,
     /// The time of the latest choice.
     chosen: u64,
-    /// What the latest feedback said: memory that is used again.
+    /// What the latest feedback reported: memory that is used again.
     fates: Vec<PacketFate>,
 }
 
@@ -181,7 +184,8 @@ impl ViewerPath {
         self.limit.resend(now, number, size, round_trip)
     }
 
-    /// Hands in a transport-wide feedback of the viewer. Packets that did not leave on this path change nothing.
+    /// Hands in a transport-wide feedback of the viewer. What it says of packets that did not leave on this path changes nothing. If its
+    /// first packet did not leave, it is ignored whole.
     ///
     /// # Errors
     ///

@@ -1,6 +1,6 @@
 //! What is proved of paths. These functions exist for what they prove; they do nothing.
 
-ghost use Rattle.codec_payload_bandwidth_path.specs.PathRuns.{LeavesByThePace, LimitsByCalls, ResendsByTheShare, StrangersChangeNothing};
+ghost use Rattle.codec_payload_bandwidth_path.specs.PathRuns.{LeavesByThePace, LimitsByCalls, PacketsBehindChangeNothing, ResendsByTheShare, StrangersChangeNothing};
 
 /// Proves for any calls of a path, from any state on, that no more leaves than what its paces carry meanwhile, and the burst, and one
 /// packet.
@@ -15,7 +15,9 @@ pub fn paths_resend_by_the_share()
     ensures calls { LimitsByCalls }
 {}
 
-/// Proves that feedback on packets that did not leave on a path changes nothing.
+/// Proves that feedback on packets that did not leave on a path changes nothing: not all of it, if its first packet did not leave, and not
+/// what it says of packets behind all that left.
 pub fn strangers_change_nothing()
-    ensures { StrangersChangeNothing }
+    ensures first { StrangersChangeNothing }
+    ensures behind { PacketsBehindChangeNothing }
 {}

@@ -25,6 +25,7 @@ pub struct AggregationHeader {
 
 impl AggregationHeader {
     /// The header of a payload with this number of elements. W is the number up to three, and 0 above.
+    #[must_use]
     pub fn new(continues: bool, goes_on: bool, elements: usize, starts: bool) -> Self {
         let count = if elements > 3 { 0 } else { elements as u8 };
         let z = if continues { CONTINUES } else { 0 };
@@ -36,6 +37,7 @@ impl AggregationHeader {
     }
 
     /// The header of a payload inside an OBU: one element that goes on from the payload before and in the next.
+    #[must_use]
     pub fn inside() -> Self {
         AggregationHeader {
             byte: CONTINUES + GOES_ON + ONE,
@@ -43,31 +45,37 @@ impl AggregationHeader {
     }
 
     /// Whether it is the one of [`inside`](Self::inside), with no reserved bit set.
+    #[must_use]
     pub fn is_inside(self) -> bool {
         self.byte == CONTINUES + GOES_ON + ONE
     }
 
     /// Z: whether the first element goes on from the payload before.
+    #[must_use]
     pub fn continues(self) -> bool {
         self.byte & CONTINUES != 0
     }
 
     /// Y: whether the last element continues in the next payload. Ignored if W announces more elements than the payload has.
+    #[must_use]
     pub fn goes_on(self) -> bool {
         self.byte & GOES_ON != 0
     }
 
     /// W, 0 to 3: the number of elements, the last without a length before it; 0 if each has a length.
+    #[must_use]
     pub fn count(self) -> u8 {
         (self.byte & COUNT) / ONE
     }
 
     /// N: whether a coded video sequence starts.
+    #[must_use]
     pub fn starts(self) -> bool {
         self.byte & STARTS != 0
     }
 
     /// Whether the pending OBU continues in the payload: Z is set, and N is clear.
+    #[must_use]
     pub fn continues_pending(self) -> bool {
         self.continues() && !self.starts()
     }

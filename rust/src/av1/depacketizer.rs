@@ -22,6 +22,7 @@ pub struct Av1Depacketizer {
 
 impl Av1Depacketizer {
     /// An empty depacketizer. Does not allocate until it is used.
+    #[must_use]
     pub fn new() -> Self {
         Av1Depacketizer {
             pending: Pending::new(),

@@ -23,6 +23,7 @@ fn number_front(more: u32, bytes: &[u8]) -> Option<(u64, &[u8])> {
 
 /// The number at the front, of at most ten bytes and modulo 2^64, and the bytes after it; `None` if no byte below 0x80 ends it.
 /// Numbers of one or two bytes, the usual case, are read without a loop.
+#[must_use]
 pub fn number_at(bytes: &[u8]) -> Option<(u64, &[u8])> {
     match bytes {
         [low, rest @ ..] if *low < 128 => Some((u64::from(*low), rest)),
@@ -54,6 +55,7 @@ fn joined_front(more: u32, front: &[u8], back: &[u8]) -> Option<(u64, usize)> {
 }
 
 /// The number at the front of two slices that follow each other, as [`number_at`] reads it, and how many bytes follow it.
+#[must_use]
 pub fn joined_number(front: &[u8], back: &[u8]) -> Option<(u64, usize)> {
     joined_front(9, front, back)
 }
@@ -93,6 +95,7 @@ pub fn write_number<W: PayloadWriter>(
 }
 
 /// How many bytes a number takes.
+#[must_use]
 pub fn number_len(number: u64) -> usize {
     let mut rest = number;
     for i in 1..10usize {
@@ -105,6 +108,7 @@ pub fn number_len(number: u64) -> usize {
 }
 
 /// The greatest number of bytes that fits after its own length, or 0 if none fits.
+#[must_use]
 pub fn longest(room: usize) -> usize {
     for len in 1..10usize {
         if room <= len {

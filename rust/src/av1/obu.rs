@@ -15,12 +15,14 @@ pub struct ObuSlices<'a> {
 }
 
 /// Whether the payload has a size field before it.
+#[must_use]
 pub fn has_size_bit(header: u8) -> bool {
     header & 2 != 0
 }
 
 /// Whether the type is one that payloads carry: a sequence header, a frame header, a tile group, metadata, a frame or a
 /// redundant frame header.
+#[must_use]
 pub fn is_kept(header: u8) -> bool {
     matches!(header & 0x78, 0x08 | 0x18 | 0x20 | 0x28 | 0x30 | 0x38)
 }
@@ -58,6 +60,7 @@ fn sized_of<'a>(
 }
 
 /// The OBU at the front, and the bytes after it; `None` if a byte of it is missing.
+#[must_use]
 pub fn obu_of(bytes: &[u8]) -> Option<(ObuSlices<'_>, &[u8])> {
     let (first, rest) = bytes.split_first()?;
     let header = *first;
@@ -93,6 +96,7 @@ fn behind_extension<'a>(
 }
 
 /// Whether two adjacent slices are exactly one OBU. Does not allocate.
+#[must_use]
 pub fn is_one_obu(front: &[u8], back: &[u8]) -> bool {
     let (header, front, back) = match (front, back) {
         ([header, rest @ ..], _) => (*header, rest, back),

@@ -14,6 +14,7 @@ fn element_of(bytes: &[u8]) -> Option<(&[u8], &[u8])> {
 }
 
 /// The next element with a W of `w`, and the bytes after it.
+#[must_use]
 pub fn next_element(w: u8, bytes: &[u8]) -> Option<(&[u8], &[u8])> {
     if w == 1 {
         Some((bytes, &[]))
@@ -23,6 +24,7 @@ pub fn next_element(w: u8, bytes: &[u8]) -> Option<(&[u8], &[u8])> {
 }
 
 /// The W for the bytes after an element.
+#[must_use]
 pub fn w_after_one(w: u8) -> u8 {
     if w > 1 { w - 1 } else { w }
 }

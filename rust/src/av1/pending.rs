@@ -22,6 +22,7 @@ pub struct Pending {
 
 impl Pending {
     /// Nothing.
+    #[must_use]
     pub fn new() -> Self {
         Pending {
             bytes: Vec::new(),
@@ -30,6 +31,7 @@ impl Pending {
     }
 
     /// The pending bytes.
+    #[must_use]
     pub fn as_slice(&self) -> &[u8] {
         &self.bytes[self.room..]
     }

@@ -16,6 +16,7 @@ pub struct Piece<'a> {
 
 impl<'a> Piece<'a> {
     /// The bytes of an OBU that payloads carry: without its size, and with the size bit cleared.
+    #[must_use]
     pub fn whole(obu: &ObuSlices<'a>) -> Self {
         Piece {
             header: Some(obu.header & 0xfd),
@@ -25,12 +26,14 @@ impl<'a> Piece<'a> {
     }
 
     /// The number of bytes.
+    #[must_use]
     pub fn len(&self) -> usize {
         let header = if self.header.is_some() { 1 } else { 0 };
         header + self.extension.len() + self.payload.len()
     }
 
     /// The first `n` bytes, and the others.
+    #[must_use]
     pub fn split_at(&self, n: usize) -> (Self, Self) {
         if n == 0 {
             let none = Piece {

@@ -40,6 +40,7 @@ pub struct Arrivals {
 
 impl Arrivals {
     /// Returns the state before the first arrival.
+    #[must_use]
     pub fn new() -> Arrivals {
         Arrivals {
             latest: [None; KEPT],
@@ -60,12 +61,14 @@ impl Arrivals {
     }
 
     /// Returns the rate in bits per second. `None`: the arrivals span less than 50 ms.
+    #[must_use]
     pub fn rate(&self) -> Option<u128> {
         rate_by(measure(&self.latest, false))
     }
 
     /// Returns the rate since the last packet that did not stand in a queue: what the link carries, in bits per second. If that is less than
     /// 50 ms ago: the rate of all.
+    #[must_use]
     pub fn link_rate(&self) -> Option<u128> {
         match rate_by(measure(&self.latest, true)) {
             Some(rate) => Some(rate),

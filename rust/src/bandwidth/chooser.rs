@@ -16,6 +16,7 @@ pub struct LayerChoice {
 
 /// How a [`LayerChooser`] chooses.
 #[derive(Clone, Copy, Debug, PartialEq, Eq)]
+#[cfg_attr(not(feature = "exhaustive"), non_exhaustive)]
 pub struct LayerSettings {
     /// How many ticks have to pass after a fall before the choice rises. 2,000,000 by default: two seconds, in microseconds.
     pub pause: u64,
@@ -23,7 +24,8 @@ pub struct LayerSettings {
 
 impl LayerSettings {
     /// Returns the defaults, for a clock in microseconds.
-    pub fn live() -> LayerSettings {
+    #[must_use]
+    pub const fn live() -> LayerSettings {
         LayerSettings { pause: 2_000_000 }
     }
 }
@@ -34,6 +36,7 @@ fn needs(choice: &LayerChoice) -> u128 {
 }
 
 /// Returns what a trial is to reach for a choice, in bits per second: 8 percent above its rate, or 3 percent above what it needs to begin.
+#[must_use]
 pub fn trial_rate(choice: &LayerChoice) -> u64 {
     let rate = (u128::from(choice.rate) * 108 / 100).max(u128::from(choice.begin) * 108 / 105);
     rate.min(u128::from(u64::MAX)) as u64
@@ -47,6 +50,7 @@ fn is_carried(current: usize, carries: u64, index: usize, choice: &LayerChoice) 
 /// Returns the index of the choice that a viewer gets, if its path carries `carries` bits per second and the current choice has the index
 /// `current`: the highest one that is carried, or 0. A choice up to the current one is carried if its rate is at most `carries`, and a
 /// higher one if its rate and 5 percent are, and if it can begin. Does not allocate.
+#[must_use]
 pub fn choose(current: usize, carries: u64, choices: &[LayerChoice]) -> usize {
     let mut best = 0;
     for (index, choice) in choices.iter().enumerate() {
@@ -71,6 +75,7 @@ pub struct LayerChooser {
 
 impl LayerChooser {
     /// Returns a chooser that begins with this choice.
+    #[must_use]
     pub fn new(settings: LayerSettings, current: usize) -> LayerChooser {
         LayerChooser {
             pause: settings.pause,
@@ -80,6 +85,7 @@ impl LayerChooser {
     }
 
     /// Returns the index of the current choice.
+    #[must_use]
     pub fn current(&self) -> usize {
         self.current
     }
@@ -100,6 +106,7 @@ impl LayerChooser {
     }
 
     /// Returns what a trial is to reach to go `steps` choices higher, or to the highest one. 0: the current choice is the highest.
+    #[must_use]
     pub fn wanted(&self, steps: usize, choices: &[LayerChoice]) -> u64 {
         if self.current >= choices.len() || self.current + 1 == choices.len() {
             return 0;

@@ -40,6 +40,7 @@ pub struct Delays {
 
 impl Delays {
     /// Returns the state before the first packet.
+    #[must_use]
     pub fn new() -> Delays {
         Delays {
             latest: [None; KEPT],
@@ -67,6 +68,7 @@ impl Delays {
     }
 
     /// Returns how long the latest packets stood in the queue, in microseconds. 0 before the first packet.
+    #[must_use]
     pub fn standing(&self) -> u128 {
         match (least(&self.latest), self.base()) {
             (Some(least), Some(base)) => least.saturating_sub(base),
@@ -75,6 +77,7 @@ impl Delays {
     }
 
     /// Returns how long this packet stood in the queue, in microseconds. 0 before the first packet.
+    #[must_use]
     pub fn above(&self, sent: u64, arrived: u64) -> u128 {
         match self.base() {
             Some(base) => delay(sent, arrived).saturating_sub(base),

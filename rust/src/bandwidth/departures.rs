@@ -5,15 +5,15 @@
 use crate::bandwidth::estimator::{PacketFate, PacketOutcome};
 use crate::congestion::transport::TransportFeedback;
 use crate::memory::{AllocError, TryQueue, TryVec};
-use crate::wire::Ticks;
+use crate::wire::{Ticks, extend_u32};
 use alloc::collections::VecDeque;
 use alloc::vec::Vec;
 
 /// The most packets that are remembered: those of 4 s at 5 Mbit/s.
 pub const REMEMBERED: usize = 2_048;
 
-/// The first time of a receiver's clock, in quarters of a millisecond, so that no time of it is below 0.
-const FIRST_TIME: u64 = 17_179_869_184;
+/// Where a receiver's clock begins, in quarters of a millisecond: 2^34, so that no time of it is below 0.
+const CLOCK: u64 = 17_179_869_184;
 
 /// A packet that left.
 #[derive(Clone, Copy, Debug, PartialEq, Eq)]
@@ -24,13 +24,6 @@ pub(crate) struct Departure {
     pub(crate) size: u32,
 }
 
-/// A time of the receiver's clock, in quarters of a millisecond: modulo 2^32, as feedback has it, and without wrap.
-#[derive(Clone, Copy, Debug, PartialEq, Eq)]
-pub(crate) struct ReceiverTime {
-    pub(crate) low: u32,
-    pub(crate) whole: u64,
-}
-
 /// The transport-wide counter of a path, the latest packets that left on it, and of which of them feedback was heard.
 #[derive(Debug)]
 pub(crate) struct Departures {
@@ -38,10 +31,10 @@ pub(crate) struct Departures {
     count: u64,
     /// The latest packets, at most `REMEMBERED`, the latest one last.
     latest: VecDeque<Departure>,
-    /// No more feedback counts of the packets with lower indices.
-    told: u64,
-    /// The latest time that a feedback had.
-    clock: Option<ReceiverTime>,
+    /// Feedback of the packets with lower indices counted, and none counts again.
+    counted: u64,
+    /// The latest time of the receiver's clock that a feedback had, in quarters of a millisecond.
+    clock: u64,
 }
 
 impl Departures {
@@ -56,8 +49,8 @@ impl Departures {
         Ok(Departures {
             count: 0,
             latest,
-            told: 0,
-            clock: None,
+            counted: 0,
+            clock: CLOCK,
         })
     }
 
@@ -92,7 +85,7 @@ impl Departures {
 
     /// Returns the lowest index of a packet of which feedback may still say something.
     fn open(&self) -> u64 {
-        self.told.max(self.first())
+        self.counted.max(self.first())
     }
 
     /// Returns the packet with this index, if it is remembered.
@@ -100,7 +93,7 @@ impl Departures {
         self.latest[(index - self.first()) as usize]
     }
 
-    /// Appends what feedback says of the packets from `from` up to `to`, if the feedback that would tell was lost.
+    /// Appends what feedback says of the packets from `from` up to `to`, whose feedback was lost.
     fn append_unknown(
         &self,
         from: u64,
@@ -112,20 +105,17 @@ impl Departures {
         }
         Ok(())
     }
+
     /// Appends what these statuses say of the packets from `from` on.
-    fn append_said(
+    fn append_reported(
         &self,
         from: u64,
         statuses: &[Option<u32>],
         fates: &mut Vec<PacketFate>,
     ) -> Result<(), AllocError> {
-        let mut index = from;
-        for status in statuses {
-            if index >= self.count {
-                return Ok(());
-            }
-            fates.try_push(fate_by(self.clock, self.at(index), *status))?;
-            index += 1;
+        let first = (from - self.first()) as usize;
+        for (place, status) in statuses.iter().enumerate() {
+            fates.try_push(fate_by(self.clock, self.latest[first + place], *status))?;
         }
         Ok(())
     }
@@ -144,10 +134,11 @@ impl Departures {
         let Some(base) = self.index_of(feedback.base) else {
             return Ok(());
         };
+        let counted = up_to(&feedback.statuses, self.count - base);
         let open = self.open();
         let begin = base.max(open);
         self.append_unknown(open, begin, fates)?;
-        self.append_said(begin, from_index(&feedback.statuses, begin - base), fates)
+        self.append_reported(begin, from_place(counted, begin - base), fates)
     }
 
     /// Notes that a feedback was heard.
@@ -155,24 +146,32 @@ impl Departures {
         let Some(base) = self.index_of(feedback.base) else {
             return;
         };
-        let end = base.saturating_add(feedback.statuses.len() as u64);
-        self.told = self.told.max(end.min(self.count));
-        if let Some(low) = last_said(&feedback.statuses) {
-            self.clock = Some(receiver_time(self.clock, low));
+        let counted = up_to(&feedback.statuses, self.count - base);
+        self.counted = self.counted.max(base + counted.len() as u64);
+        if let Some(low) = last_time(counted) {
+            self.clock = extend_u32(Some(self.clock), low);
         }
     }
 }
 
+/// Returns the first statuses, at most `most` of them.
+fn up_to(statuses: &[Option<u32>], most: u64) -> &[Option<u32>] {
+    if most >= statuses.len() as u64 {
+        return statuses;
+    }
+    &statuses[..most as usize]
+}
+
 /// Returns the statuses from this place on.
-fn from_index(statuses: &[Option<u32>], place: u64) -> &[Option<u32>] {
+fn from_place(statuses: &[Option<u32>], place: u64) -> &[Option<u32>] {
     if place >= statuses.len() as u64 {
         return &[];
     }
     &statuses[place as usize..]
 }
 
-/// Returns the latest time of the statuses: that of the last packet that arrived.
-fn last_said(statuses: &[Option<u32>]) -> Option<u32> {
+/// Returns the time of the last packet that arrived.
+fn last_time(statuses: &[Option<u32>]) -> Option<u32> {
     let mut last = None;
     for status in statuses {
         if status.is_some() {
@@ -182,35 +181,16 @@ fn last_said(statuses: &[Option<u32>]) -> Option<u32> {
     last
 }
 
-/// Returns a time of the receiver's clock without wrap: the nearest one to the latest time before.
-fn receiver_time(clock: Option<ReceiverTime>, low: u32) -> ReceiverTime {
-    let Some(clock) = clock else {
-        return ReceiverTime {
-            low,
-            whole: FIRST_TIME,
-        };
-    };
-    let ahead = low.wrapping_sub(clock.low);
-    let whole = if ahead < 2_147_483_648 {
-        clock.whole.saturating_add(u64::from(ahead))
-    } else {
-        clock
-            .whole
-            .saturating_sub(u64::from(clock.low.wrapping_sub(low)))
-    };
-    ReceiverTime { low, whole }
-}
-
 /// Returns what a status says, in microseconds of the receiver's clock.
-fn outcome_by(clock: Option<ReceiverTime>, status: Option<u32>) -> PacketOutcome {
+fn outcome_by(clock: u64, status: Option<u32>) -> PacketOutcome {
     match status {
-        Some(low) => PacketOutcome::Arrived(receiver_time(clock, low).whole.saturating_mul(250)),
+        Some(low) => PacketOutcome::Arrived(extend_u32(Some(clock), low).saturating_mul(250)),
         None => PacketOutcome::Lost,
     }
 }
 
 /// Returns what a status says of a packet.
-fn fate_by(clock: Option<ReceiverTime>, departure: Departure, status: Option<u32>) -> PacketFate {
+fn fate_by(clock: u64, departure: Departure, status: Option<u32>) -> PacketFate {
     PacketFate {
         sent: departure.at,
         size: departure.size,

@@ -94,6 +94,7 @@ pub struct BandwidthEstimator {
 
 impl BandwidthEstimator {
     /// Begins at this time with `start`, within `least` and `most`.
+    #[must_use]
     pub fn new(now: Ticks, start: u64, least: u64, most: u64) -> BandwidthEstimator {
         BandwidthEstimator {
             delays: Delays::new(),
@@ -115,16 +116,19 @@ impl BandwidthEstimator {
     }
 
     /// Returns the rate.
+    #[must_use]
     pub fn estimate(&self) -> u64 {
         self.rate.estimate()
     }
 
     /// Returns what is left of it for first transmissions, since lost packets are sent again.
+    #[must_use]
     pub fn carries(&self) -> u64 {
         less_lost(self.rate.estimate(), self.losses.usual())
     }
 
     /// Returns the rate at which packets are to leave: less while a queue is emptied, and that of a trial.
+    #[must_use]
     pub fn pace(&self, now: Ticks) -> u64 {
         let estimate = self.rate.estimate();
         match &self.trial {
@@ -135,11 +139,13 @@ impl BandwidthEstimator {
     }
 
     /// Returns the trial that is under way.
+    #[must_use]
     pub fn trial(&self) -> Option<Trial> {
         self.trial
     }
 
     /// Returns whether a queue is being emptied.
+    #[must_use]
     pub fn is_draining(&self) -> bool {
         self.watch.draining
     }

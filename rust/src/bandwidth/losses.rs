@@ -24,6 +24,7 @@ pub struct Losses {
 
 impl Losses {
     /// Returns the state before the first packet.
+    #[must_use]
     pub fn new() -> Losses {
         Losses {
             lost: 0,
@@ -45,6 +46,7 @@ impl Losses {
     }
 
     /// Returns the usual share of losses, in thousandths.
+    #[must_use]
     pub fn usual(&self) -> u64 {
         self.usual / 16
     }

@@ -42,6 +42,7 @@ pub(crate) struct Waiting {
 
 /// How a pacer sends.
 #[derive(Clone, Copy, Debug, PartialEq, Eq)]
+#[cfg_attr(not(feature = "exhaustive"), non_exhaustive)]
 pub struct PacerSettings {
     /// The bytes that may leave at once, before one packet more. 2,500 by default: two packets.
     pub burst: u32,
@@ -51,7 +52,8 @@ pub struct PacerSettings {
 
 impl PacerSettings {
     /// Returns the defaults.
-    pub fn live() -> PacerSettings {
+    #[must_use]
+    pub const fn live() -> PacerSettings {
         PacerSettings {
             burst: 2_500,
             bound: 250_000,
@@ -106,6 +108,7 @@ pub struct Pacer {
 impl Pacer {
     /// Returns a pacer without packets, whose bucket is full. `rate` is in bits per second; 0: nothing leaves once the burst has left.
     /// Does not allocate.
+    #[must_use]
     pub fn new(rate: u64, settings: PacerSettings) -> Pacer {
         Pacer {
             settings,
@@ -151,6 +154,7 @@ impl Pacer {
     }
 
     /// Returns the packet that leaves now, and removes it. `None`: nothing waits, or the rate does not allow a packet yet.
+    #[must_use]
     pub fn pop(&mut self, now: Ticks) -> Option<PacedPacket> {
         self.advance(now);
         if self.owed > u128::from(self.settings.burst) * BYTE {
@@ -164,6 +168,7 @@ impl Pacer {
 
     /// Removes the first packet of a kind, and returns it: it is not to leave any more. So
     /// `while let Some(packet) = pacer.remove(kind)` removes all of a kind.
+    #[must_use]
     pub fn remove(&mut self, kind: PacedKind) -> Option<PacedPacket> {
         let first = match kind {
             PacedKind::Audio => take_first(&mut self.audio),
@@ -181,6 +186,7 @@ impl Pacer {
     }
 
     /// Returns the kind of the packet that leaves next. `None`: nothing waits.
+    #[must_use]
     pub fn first_kind(&self) -> Option<PacedKind> {
         if !self.audio.is_empty() {
             Some(PacedKind::Audio)
@@ -196,12 +202,14 @@ impl Pacer {
     }
 
     /// Returns how many bytes wait.
+    #[must_use]
     pub fn waiting(&self) -> u64 {
         self.bytes
     }
 
     /// Returns the time from which on [`Pacer::pop`] returns a packet. `None`: nothing waits, or the rate is 0 and the burst has left, or
     /// the time is beyond what [`Ticks`] hold.
+    #[must_use]
     pub fn next_deadline(&self) -> Option<Ticks> {
         self.first_kind()?;
         let limit = u128::from(self.settings.burst) * BYTE;

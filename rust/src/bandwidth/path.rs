@@ -20,6 +20,7 @@ const MOST_PADDING: u128 = 6_000;
 
 /// How the path to a viewer is used. Rates are in bits per second.
 #[derive(Clone, Copy, Debug, PartialEq, Eq)]
+#[cfg_attr(not(feature = "exhaustive"), non_exhaustive)]
 pub struct PathSettings {
     /// The estimate of the path at the beginning. 300,000 by default.
     pub start: u64,
@@ -36,7 +37,8 @@ pub struct PathSettings {
 
 impl PathSettings {
     /// Returns the defaults.
-    pub fn live() -> PathSettings {
+    #[must_use]
+    pub const fn live() -> PathSettings {
         PathSettings {
             start: 300_000,
             least: 50_000,
@@ -57,7 +59,7 @@ pub struct Leaving {
     pub number: u16,
 }
 
-/// What [`ViewerPath::choose`] says.
+/// What [`ViewerPath::choose`] returns.
 #[derive(Clone, Copy, Debug, PartialEq, Eq)]
 pub struct PathOrder {
     /// The index of the choice of layers that the viewer gets.
@@ -89,7 +91,7 @@ pub struct ViewerPath {
     fill: u128,
     /// The time of the latest choice.
     chosen: u64,
-    /// What the latest feedback said: memory that is used again.
+    /// What the latest feedback reported: memory that is used again.
     fates: Vec<PacketFate>,
 }
 
@@ -123,6 +125,7 @@ impl ViewerPath {
 
     /// Returns the packet that leaves now, with its transport-wide number, and removes it. `None`: nothing waits, or the rate does not
     /// allow a packet yet.
+    #[must_use]
     pub fn pop(&mut self, now: Ticks) -> Option<Leaving> {
         let packet = self.pacer.pop(now)?;
         let number = self.departures.note(now, packet.size);
@@ -149,7 +152,8 @@ impl ViewerPath {
         self.limit.resend(now, number, size, round_trip)
     }
 
-    /// Hands in a transport-wide feedback of the viewer. Packets that did not leave on this path change nothing.
+    /// Hands in a transport-wide feedback of the viewer. What it says of packets that did not leave on this path changes nothing. If its
+    /// first packet did not leave, it is ignored whole.
     ///
     /// # Errors
     ///
@@ -192,26 +196,31 @@ impl ViewerPath {
     }
 
     /// Removes the first packet of a kind that waits, and returns it: it is not to leave any more.
+    #[must_use]
     pub fn remove(&mut self, kind: PacedKind) -> Option<PacedPacket> {
         self.pacer.remove(kind)
     }
 
     /// Returns how many bytes wait.
+    #[must_use]
     pub fn waiting(&self) -> u64 {
         self.pacer.waiting()
     }
 
     /// Returns the time from which on [`ViewerPath::pop`] returns a packet. `None`: nothing waits.
+    #[must_use]
     pub fn next_deadline(&self) -> Option<Ticks> {
         self.pacer.next_deadline()
     }
 
     /// Returns the estimate of the rate that the path carries.
+    #[must_use]
     pub fn estimate(&self) -> u64 {
         self.estimator.estimate()
     }
 
     /// Returns the index of the current choice.
+    #[must_use]
     pub fn choice(&self) -> usize {
         self.chooser.current()
     }

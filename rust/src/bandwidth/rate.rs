@@ -19,6 +19,7 @@ pub struct PathRate {
 
 impl PathRate {
     /// Begins with `start`, within `least` and `most`. If `most` is below `least`, `least` is the most too.
+    #[must_use]
     pub fn new(start: u64, least: u64, most: u64) -> PathRate {
         let most = most.max(least);
         PathRate {
@@ -29,6 +30,7 @@ impl PathRate {
     }
 
     /// Returns the rate.
+    #[must_use]
     pub fn estimate(&self) -> u64 {
         self.estimate
     }
@@ -68,6 +70,7 @@ pub struct Trial {
 
 impl Trial {
     /// Returns the rate of the trial at a time. If `to` is below `from`, it is `from`.
+    #[must_use]
     pub fn rate(&self, now: Ticks) -> u64 {
         let passed = now.0.saturating_sub(self.begun.0).min(RAMP);
         self.from + risen(self.to.saturating_sub(self.from), passed)

@@ -10,6 +10,7 @@ const MOST: usize = 128;
 
 /// How much may be retransmitted to a viewer.
 #[derive(Clone, Copy, Debug, PartialEq, Eq)]
+#[cfg_attr(not(feature = "exhaustive"), non_exhaustive)]
 pub struct ResendSettings {
     /// In thousandths: the most bytes that are retransmitted, of those that are sent. 250 by default.
     pub share: u32,
@@ -20,7 +21,8 @@ pub struct ResendSettings {
 
 impl ResendSettings {
     /// Returns the defaults, for a clock in microseconds.
-    pub fn live() -> ResendSettings {
+    #[must_use]
+    pub const fn live() -> ResendSettings {
         ResendSettings {
             share: 250,
             half_window: 500_000,
@@ -85,6 +87,7 @@ pub struct ResendLimit {
 
 impl ResendLimit {
     /// Returns the limit of a viewer to whom nothing was sent.
+    #[must_use]
     pub fn new(settings: ResendSettings) -> ResendLimit {
         ResendLimit {
             settings,

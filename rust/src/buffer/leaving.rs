@@ -24,6 +24,7 @@ pub struct Left {
 impl<B: Depacketizer> DepacketizingBuffer<B> {
     /// Does the same as [`DepacketizingBuffer::pop`], and returns how many packets left the buffer without being released.
     /// Packets that were evicted by a push are not among them.
+    #[must_use]
     pub fn pop_counted(&mut self) -> (Option<Result<Depacketized, PacketError>>, Left) {
         let mut bytes = Vec::new();
         let mut metas = Vec::new();

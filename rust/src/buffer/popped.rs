@@ -30,6 +30,7 @@ pub struct PoppedUnit {
 
 impl PoppedUnit {
     /// Returns a unit without packets and bytes, for the first pop. Its time is 0, and it is not contiguous. Allocates nothing.
+    #[must_use]
     pub fn new() -> Self {
         PoppedUnit {
             time: MediaTime::from_90khz(0),
@@ -42,6 +43,7 @@ impl PoppedUnit {
 
     /// Returns the number of its packets.
     #[inline(always)]
+    #[must_use]
     pub fn packets(&self) -> usize {
         self.metas.len()
     }
@@ -51,6 +53,7 @@ impl PoppedUnit {
     /// # Panics
     ///
     /// Unless `place < self.packets()`.
+    #[must_use]
     pub fn meta(&self, place: usize) -> RtpMeta {
         self.metas[place].meta()
     }
@@ -61,6 +64,7 @@ impl PoppedUnit {
     ///
     /// Unless `self.packets() > 0`.
     #[inline(always)]
+    #[must_use]
     pub fn seq_range(&self) -> RangeInclusive<SeqNo> {
         let metas = self.metas.as_slice();
         metas[0].seq_no()..=metas[metas.len() - 1].seq_no()
@@ -72,6 +76,7 @@ impl PoppedUnit {
     ///
     /// Unless `self.packets() > 0`.
     #[inline(always)]
+    #[must_use]
     pub fn first_network_time(&self) -> Ticks {
         received_first(&self.metas).received()
     }
@@ -82,6 +87,7 @@ impl PoppedUnit {
     /// # Panics
     ///
     /// Unless `self.packets() > 0`.
+    #[must_use]
     pub fn first_sender_info(&self) -> Option<SenderInfo> {
         received_first(&self.metas).last_sender_info()
     }
@@ -93,6 +99,7 @@ impl PoppedUnit {
     ///
     /// Unless `self.packets() > 0`.
     #[inline(always)]
+    #[must_use]
     pub fn start_of_talkspurt(&self) -> bool {
         self.metas[0].marker()
     }
@@ -103,6 +110,7 @@ impl PoppedUnit {
     /// # Panics
     ///
     /// Unless `self.packets() > 0`.
+    #[must_use]
     pub fn ext_vals(&self) -> ExtensionValues {
         values_among(&self.metas)
     }

@@ -14,11 +14,13 @@ pub struct PoppedPackets {
 
 impl PoppedPackets {
     /// Returns no packets. Allocates nothing.
+    #[must_use]
     pub fn new() -> Self {
         PoppedPackets { metas: Vec::new() }
     }
 
     /// Returns their number.
+    #[must_use]
     pub fn packets(&self) -> usize {
         self.metas.len()
     }
@@ -28,6 +30,7 @@ impl PoppedPackets {
     /// # Panics
     ///
     /// Unless `self.packets() > 0`.
+    #[must_use]
     pub fn ext_vals(&self) -> ExtensionValues {
         values_among(&self.metas)
     }

@@ -52,22 +52,26 @@ impl Depacketized {
     }
 
     /// Returns the metadata of its packets, in order of their sequence numbers. There is at least one packet.
+    #[must_use]
     pub fn meta(&self) -> &[RtpMeta] {
         self.metas.as_slice()
     }
 
     /// Returns the time at which the first of its packets arrived. The cost grows with the number of packets.
+    #[must_use]
     pub fn first_network_time(&self) -> Ticks {
         received_first(self.meta()).received
     }
 
     /// Returns the sender report of the packet that arrived first; of several that arrived at that time, the packet with the
     /// lowest sequence number. The cost grows with the number of packets.
+    #[must_use]
     pub fn first_sender_info(&self) -> Option<SenderInfo> {
         received_first(self.meta()).last_sender_info
     }
 
     /// Returns the sequence numbers of its first and last packet.
+    #[must_use]
     pub fn seq_range(&self) -> RangeInclusive<SeqNo> {
         let metas = self.meta();
         metas[0].seq_no..=metas[metas.len() - 1].seq_no
@@ -75,12 +79,14 @@ impl Depacketized {
 
     /// Returns whether its first packet has the marker of the RTP header, which audio sets at the start of a talk spurt (RFC
     /// 3551, section 4.1).
+    #[must_use]
     pub fn start_of_talkspurt(&self) -> bool {
         self.meta()[0].header.marker
     }
 
     /// Returns the values of its header extensions: the values of the last packet, with the capture time and the layers
     /// allocation of the first packet, if that has them.
+    #[must_use]
     pub fn ext_vals(&self) -> ExtensionValues {
         let metas = self.meta();
         let first = metas[0].header.ext_vals;

@@ -28,6 +28,7 @@ impl<B: Depacketizer> DepacketizingBuffer<B> {
     /// Does the same as [`DepacketizingBuffer::pop_unit`], and returns how many packets left the buffer without being
     /// released. Packets that were evicted by a push are not among them.
     #[inline(always)]
+    #[must_use]
     pub fn pop_unit_counted(
         &mut self,
         unit: &mut PoppedUnit,

@@ -123,6 +123,7 @@ pub(crate) fn block_size(count: usize) -> usize {
 
 impl StreamReport {
     /// Returns whether the block can be written: at most [`MAX_METRICS`] packets, with ECN bits up to 3 and offsets below 8,192.
+    #[must_use]
     pub fn fits(&self) -> bool {
         self.metrics.len() <= MAX_METRICS && metrics_fit(&self.metrics)
     }
@@ -142,6 +143,7 @@ fn reports_fit(room: usize, reports: &[StreamReport]) -> bool {
 
 impl CongestionFeedback {
     /// Returns whether the feedback can be written: each block fits, and the packet has at most 65,536 words of four bytes.
+    #[must_use]
     pub fn fits(&self) -> bool {
         reports_fit(262_132, &self.reports)
     }

@@ -10,6 +10,7 @@ use alloc::vec::Vec;
 /// Returns the arrival time offset of a packet that arrived at `time`, for a report at `now`, both in quarters of a millisecond modulo
 /// 2^32: units of 1/1,024 seconds, rounded down. [`OVER_RANGE`] if it is more than 8,189 units; [`UNAVAILABLE`] if the packet arrived
 /// after the report, that is, if it is 2^31 quarters or more.
+#[must_use]
 pub fn offset_for(now: u32, time: u32) -> u16 {
     let age = now.wrapping_sub(time);
     if age >= 2_147_483_648 {

@@ -53,6 +53,7 @@ impl<B> fmt::Debug for CodecDepacketizer<B> {
 
 impl CodecDepacketizer {
     /// The depacketizer of a codec; `None` if the codec is unsupported. G.722 uses the depacketizer of G.711.
+    #[must_use]
     pub fn from_codec(codec: Codec) -> Option<Self> {
         match codec {
             Codec::PCMU | Codec::PCMA | Codec::G722 => {

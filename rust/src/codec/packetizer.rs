@@ -61,6 +61,7 @@ impl CodecPacketizer {
     /// # Panics
     ///
     /// Unless `first_id <= 32_767`.
+    #[must_use]
     pub fn new(codec: Codec, mode: Vp9PacketizerMode, first_id: u16) -> Option<Self> {
         assert!(first_id <= 32_767);
         match codec {
@@ -81,6 +82,7 @@ impl CodecPacketizer {
     }
 
     /// The same with the non-flexible mode and the picture id 0.
+    #[must_use]
     pub fn from_codec(codec: Codec) -> Option<Self> {
         CodecPacketizer::new(codec, Vp9PacketizerMode::NonFlexible, 0)
     }

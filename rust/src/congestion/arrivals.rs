@@ -43,6 +43,7 @@ pub struct ArrivalLog {
 }
 
 /// Returns a time in microseconds as quarters of a millisecond, rounded down, modulo 2^32.
+#[must_use]
 pub fn quarters(micros: u64) -> u32 {
     (micros / 250 % 4_294_967_296) as u32
 }
@@ -119,17 +120,20 @@ impl ArrivalLog {
     }
 
     /// Returns whether there are numbers that were not reported.
+    #[must_use]
     pub fn has_unreported(&self) -> bool {
         self.reported < self.slots.len()
     }
 
     /// Returns the first number that was not reported.
+    #[must_use]
     pub fn first_unreported(&self) -> u16 {
         self.start.wrapping_add(self.reported as u16)
     }
 
     /// Returns the arrivals that were not reported: for each number from [`ArrivalLog::first_unreported`] on the time at which it
     /// arrived, or `None` if it is missing. The last number arrived.
+    #[must_use]
     pub fn unreported(&self) -> &[Option<u32>] {
         self.slots.from(self.reported)
     }

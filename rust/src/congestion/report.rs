@@ -21,6 +21,7 @@ fn reference_of(slots: &[Option<u32>]) -> u32 {
 
 /// Returns how many numbers one feedback may report, so that its control information has at most `size` bytes: 475 for 1,100 bytes.
 /// A `size` above 65,535 counts as 65,535; below 15 no number fits.
+#[must_use]
 #[doc(hidden)]
 pub fn most_reported(size: usize) -> usize {
     (7 * size.min(65_535)).saturating_sub(89) / 16

@@ -248,6 +248,7 @@ pub struct DescriptorReader {
 
 impl DescriptorReader {
     /// Returns a reader for a new stream: it has no structure and no active decode target. Does not allocate.
+    #[must_use]
     pub fn new() -> DescriptorReader {
         DescriptorReader {
             structure: None,
@@ -256,11 +257,13 @@ impl DescriptorReader {
     }
 
     /// Returns the latest structure.
+    #[must_use]
     pub fn structure(&self) -> Option<&TemplateStructure> {
         self.structure.as_ref()
     }
 
     /// Returns the active decode targets: bit 0 for the first.
+    #[must_use]
     pub fn active_targets(&self) -> u32 {
         self.active
     }

@@ -19,21 +19,25 @@ impl Numbers {
     }
 
     /// Returns how many numbers there are, at most 32.
+    #[must_use]
     pub fn len(&self) -> usize {
         self.count
     }
 
     /// Whether the list is empty.
+    #[must_use]
     pub fn is_empty(&self) -> bool {
         self.count == 0
     }
 
     /// Returns the numbers.
+    #[must_use]
     pub fn as_slice(&self) -> &[u16] {
         &self.numbers[..self.count]
     }
 
     /// Returns a list with the same numbers.
+    #[must_use]
     pub fn copy(&self) -> Numbers {
         Numbers {
             numbers: self.numbers,

@@ -203,51 +203,61 @@ impl TemplateStructure {
     }
 
     /// Returns the template id of the first template, 0 to 63.
+    #[must_use]
     pub fn first_template(&self) -> u8 {
         self.first
     }
 
     /// Returns the number of decode targets, 1 to 32.
+    #[must_use]
     pub fn decode_targets(&self) -> u8 {
         self.targets
     }
 
     /// Returns the number of chains, 0 to 32.
+    #[must_use]
     pub fn chains(&self) -> u8 {
         self.chains
     }
 
     /// Returns the layer of each template, 1 to 64 of them.
+    #[must_use]
     pub fn layers(&self) -> &[Layer] {
         &self.layers
     }
 
     /// Returns the chain that protects each decode target, counted from 0. Without chains the list is empty.
+    #[must_use]
     pub fn protected_by(&self) -> &[u16] {
         self.protected.as_slice()
     }
 
     /// Returns the place among the templates that a template id names.
+    #[must_use]
     pub fn place_of(&self, template_id: u8) -> usize {
         (usize::from(template_id) + 64 - usize::from(self.first)) % 64
     }
 
     /// Returns the layer of the template at a place; `None` past the last template.
+    #[must_use]
     pub fn layer(&self, place: usize) -> Option<Layer> {
         self.layers.get(place).copied()
     }
 
     /// Returns the indications of the template at a place, for each decode target. Past the last template the list is empty.
+    #[must_use]
     pub fn indications(&self, place: usize) -> Numbers {
         copy_at(&self.indications, place)
     }
 
     /// Returns the references of the template at a place, as distances of 1 to 16. Past the last template the list is empty.
+    #[must_use]
     pub fn references(&self, place: usize) -> Numbers {
         copy_at(&self.references, place)
     }
 
     /// Returns the distance of the template at a place in each chain, 0 to 15. Past the last template the list is empty.
+    #[must_use]
     pub fn chain_differences(&self, place: usize) -> Numbers {
         copy_at(&self.chain_differences, place)
     }

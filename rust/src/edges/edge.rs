@@ -17,6 +17,7 @@ pub enum IdWidth {
 
 impl IdWidth {
     /// Returns how many ids there are: 2 to the power of the bits.
+    #[must_use]
     pub fn ids(self) -> u64 {
         match self {
             IdWidth::Bits7 => 128,
@@ -26,6 +27,7 @@ impl IdWidth {
     }
 
     /// Returns the id that comes after this one: 1 more, or 0 after the last one.
+    #[must_use]
     pub fn next(self, id: u16) -> u16 {
         match self {
             IdWidth::Bits7 => ((u32::from(id) + 1) % 128) as u16,
@@ -35,6 +37,7 @@ impl IdWidth {
     }
 
     /// Returns the id that comes before this one: 1 less, or the last one before 0.
+    #[must_use]
     pub fn prior(self, id: u16) -> u16 {
         match self {
             IdWidth::Bits7 => ((u32::from(id) + 127) % 128) as u16,
@@ -77,6 +80,7 @@ impl Edge {
     /// Returns what a payload of VP8 says (RFC 7741, section 4.2): X R N S R PID(3), then I L T K RSV(4), if X is set, then PictureID, if
     /// I is set. The first packet of a picture has S set and PID 0; the last one has the marker of RTP. `None`: the payload has no
     /// PictureID. Does not allocate.
+    #[must_use]
     pub fn in_vp8(payload: &[u8], marker: bool) -> Option<Edge> {
         let (&first, bytes) = payload.split_first()?;
         if first & 0x80 == 0 {
@@ -94,6 +98,7 @@ impl Edge {
     /// Returns what a payload of VP9 says (RFC 9628, section 4.2): I P L F B E V Z, then PictureID, if I is set, then TID(3) U SID(3) D, if
     /// L is set. The first packet of a picture has B set and SID 0; the last one has E set and the marker of RTP. `None`: the payload
     /// has no PictureID. Does not allocate.
+    #[must_use]
     pub fn in_vp9(payload: &[u8], marker: bool) -> Option<Edge> {
         let (&flags, bytes) = payload.split_first()?;
         if flags & 0x80 == 0 {
@@ -105,6 +110,7 @@ impl Edge {
 
     /// Returns what a dependency descriptor says (AV1 RTP specification, appendix A): start_of_frame(1), end_of_frame(1),
     /// frame_dependency_template_id(6), frame_number(16). `None`: a byte of it is missing. Does not allocate.
+    #[must_use]
     pub fn in_descriptor(descriptor: &[u8]) -> Option<Edge> {
         let (&flags, bytes) = descriptor.split_first()?;
         let (&high, bytes) = bytes.split_first()?;

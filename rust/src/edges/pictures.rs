@@ -202,6 +202,7 @@ impl Gaps {
 
 impl PictureEdges {
     /// Returns the state before the first packet. Does not allocate.
+    #[must_use]
     pub fn none() -> PictureEdges {
         PictureEdges {
             places: [None; PICTURES],
@@ -222,6 +223,7 @@ impl PictureEdges {
     }
 
     /// Returns whether the sender has kept the rule so far.
+    #[must_use]
     pub fn is_trusted(&self) -> bool {
         self.is_trusted
     }

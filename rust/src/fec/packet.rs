@@ -172,12 +172,14 @@ impl<'a> FecPacket<'a> {
     }
 
     /// Returns the mask as 48 bits. Bit 47 stands for the number `base`, bit 0 for the number 47 after it.
+    #[must_use]
     pub fn mask_bits(&self) -> u64 {
         mask_of(self.mask, self.mask_continued)
     }
 
     /// Returns whether the packet can be written: `first` is below 64, the payload has at most 65,535 bytes, and a bit of the mask is
     /// set. A packet that was read fits.
+    #[must_use]
     pub fn fits(&self) -> bool {
         self.first < 64 && self.payload.len() < 65_536 && self.mask_bits() > 0
     }

@@ -43,6 +43,7 @@ impl FecPacket<'_> {
     }
 
     /// Returns the only protected number under which no packet is kept. `None`: there is no such number, or there are several.
+    #[must_use]
     pub fn only_missing(&self, store: &PacketStore) -> Option<u16> {
         let mask = self.mask_bits();
         let mut missing = None;

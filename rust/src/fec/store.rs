@@ -64,6 +64,7 @@ impl PacketStore {
     }
 
     /// Returns the packet with this number, if it is kept.
+    #[must_use]
     pub fn find(&self, number: u16) -> Option<&[u8]> {
         matching(
             number,

@@ -49,6 +49,7 @@ impl FeedbackSource {
     /// each packet is a compound packet: it begins with an empty receiver report and the name, as RFC 3550, section 6.1, asks;
     /// without bytes in `cname` the name is left out. Else a packet has the requests alone: reduced size (RFC 5506). `None`: the
     /// name has more than 255 bytes. Does not allocate.
+    #[must_use]
     pub fn new(ssrc: u32, cname: Vec<u8>, has_report: bool) -> Option<FeedbackSource> {
         if cname.len() > 255 {
             return None;
@@ -157,6 +158,7 @@ impl StreamRequests {
     /// none is, and at most 65,533 numbers are followed. Two requests for a keyframe are at least `keyframe_interval` ticks apart, and at
     /// least one and a half round trips, so that a keyframe that is on its way is not requested again: 100 ms suit live video. Does not
     /// allocate.
+    #[must_use]
     pub fn new(ssrc: u32, nack: NackSettings, keyframe_interval: u64) -> StreamRequests {
         let mut settings = nack;
         settings.capacity = nack.capacity.min(MOST_NUMBERS);
@@ -215,6 +217,7 @@ impl StreamRequests {
     }
 
     /// Returns how many requests were sent so far.
+    #[must_use]
     pub fn counts(&self) -> RequestCounts {
         self.counts
     }
@@ -226,6 +229,7 @@ impl StreamRequests {
     }
 
     /// Returns whether the packet that [`StreamRequests::take_due`] would return at this moment requests a keyframe.
+    #[must_use]
     pub fn is_keyframe_due(&self, now: Ticks) -> bool {
         let mut keyframes = self.keyframes;
         keyframes.take_due(now)
@@ -253,12 +257,14 @@ impl StreamRequests {
     }
 
     /// Returns whether a missing number with these 16 bits was requested.
+    #[must_use]
     pub fn has_requested(&self, number: u16) -> bool {
         self.nack.has_requested(number)
     }
 
     /// Returns the round-trip time in ticks: what reports say, or else the median of the latest five answers. `None`: no request was
     /// answered.
+    #[must_use]
     pub fn round_trip(&self) -> Option<u64> {
         self.nack.round_trip()
     }
@@ -266,11 +272,13 @@ impl StreamRequests {
     /// Returns how long a packet that is missing is worth waiting for, in ticks: until its last request is answered
     /// ([`NackSettings::answer_time`]). `None`: the round trip is not sure, since reports do not say it, and fewer than two requests were
     /// answered.
+    #[must_use]
     pub fn answer_time(&self) -> Option<u64> {
         self.nack.answer_time()
     }
 
     /// Returns whether nothing is requested: no number is missing, and no keyframe is needed, by the latest `update`.
+    #[must_use]
     pub fn is_idle(&self) -> bool {
         self.nack.is_empty() && !self.keyframes.is_wanted()
     }
@@ -284,6 +292,7 @@ impl StreamRequests {
     }
 
     /// Returns when the next request is due. `None`: none is without an `update`.
+    #[must_use]
     pub fn next_deadline(&self) -> Option<Ticks> {
         earlier(self.nack.next_deadline(), self.keyframes.next_deadline())
     }

@@ -13,6 +13,7 @@ use alloc::vec::Vec;
 
 /// How the arrivals of a transport are reported.
 #[derive(Clone, Copy, Debug, PartialEq, Eq)]
+#[cfg_attr(not(feature = "exhaustive"), non_exhaustive)]
 pub struct TransportSettings {
     /// The id of the header extension that has the transport-wide number (`a=extmap` with
     /// `http://www.ietf.org/id/draft-holmer-rmcat-transport-wide-cc-extensions-01`): 1 to 255.
@@ -66,6 +67,7 @@ fn most_of(size: usize) -> usize {
 }
 
 /// Returns a time of your clock in quarters of a millisecond, rounded down, modulo 2^32.
+#[must_use]
 pub fn quarters_at(now: Ticks, tick_rate: Frequency) -> u32 {
     match now.0.checked_mul(4_000) {
         Some(thousandths) => (thousandths / u64::from(tick_rate.get()) % 4_294_967_296) as u32,
@@ -76,7 +78,8 @@ pub fn quarters_at(now: Ticks, tick_rate: Frequency) -> u32 {
 impl TransportSettings {
     /// Returns settings for a clock in milliseconds: a feedback each 100 ms with at most 1,100 bytes of control information, and
     /// 2,048 numbers. `extension_id` is the id of the header extension with the transport-wide number, 1 to 255.
-    pub fn live(extension_id: u8) -> TransportSettings {
+    #[must_use]
+    pub const fn live(extension_id: u8) -> TransportSettings {
         TransportSettings {
             extension_id,
             interval: 100,
@@ -134,6 +137,7 @@ impl TransportReporter {
 
     /// Returns when the next feedback is due: `interval` after the last one, or at once if there was none or if it left something
     /// unreported. `None`: everything is reported.
+    #[must_use]
     pub fn next_deadline(&self) -> Option<Ticks> {
         if !self.log.has_unreported() {
             return None;

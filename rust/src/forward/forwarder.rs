@@ -160,6 +160,7 @@ fn ticks_between(last: Option<u64>, now: u64) -> u32 {
 
 /// Returns the number of bytes of a packet without CSRCs and header extension: what [`Forwarder::write`] writes for it, if it writes
 /// it.
+#[must_use]
 pub fn forwarded_size(packet: &RtpPacket<'_>) -> usize {
     let padding = packet.padding;
     12 + packet.payload.len() + usize::from(padding)
@@ -237,16 +238,19 @@ impl Forwarder {
     }
 
     /// Returns how the viewer's stream is sent.
+    #[must_use]
     pub fn settings(&self) -> ForwardSettings {
         self.settings
     }
 
     /// Returns the SSRC of the source that is forwarded. `None`: the viewer gets nothing now.
+    #[must_use]
     pub fn source(&self) -> Option<u32> {
         self.source
     }
 
     /// Returns the SSRC of the source that the forwarder goes over to, or has gone over to.
+    #[must_use]
     pub fn wanted(&self) -> Option<u32> {
         self.wanted
     }
@@ -467,6 +471,7 @@ impl Forwarder {
     /// Returns the number of the source's packet that was sent, or is to be sent, under this number: the packet to resend if the
     /// viewer requests the number. Take it from a store of the source's packets, and pass it to [`Forwarder::write_again`]. `None`:
     /// there is no such packet, or it is too old.
+    #[must_use]
     pub fn source_of(&self, number: u16) -> Option<u16> {
         if self.source.is_none() {
             return None;
@@ -478,6 +483,7 @@ impl Forwarder {
     /// Returns the packet to resend if the viewer requests this number: that of the store which was sent, or is to be sent, under it.
     /// Pass it to [`Forwarder::write_again`]. `store` has the packets of the source that is forwarded, as they arrived. `None`: there
     /// is no such packet, it is too old, or the store does not have it. Does not allocate.
+    #[must_use]
     pub fn requested<'a>(&self, number: u16, store: &'a History) -> Option<RtpPacket<'a>> {
         let number = self.source_of(number)?;
         let datagram = store.packet(number)?;
@@ -489,6 +495,7 @@ impl Forwarder {
     }
 
     /// Returns the number of bytes that [`Forwarder::write_again`] writes for a packet, if it writes one.
+    #[must_use]
     pub fn size_again(&self, packet: &RtpPacket<'_>) -> usize {
         match self.settings.retransmissions {
             None => forwarded_size(packet),
@@ -583,6 +590,7 @@ impl Forwarder {
 
     /// Returns the RTP time of the viewer's stream for an RTP time of a source, as in the source's sender report. With its NTP time
     /// it goes into the sender report of the viewer's stream (RFC 3550, section 6.4.1). `None`: this source is not forwarded.
+    #[must_use]
     pub fn time_for(&self, ssrc: u32, time: u32) -> Option<u32> {
         if !is_source(self.source, ssrc) {
             return None;

@@ -96,6 +96,7 @@ impl IdOffsets {
 
 impl PayloadIds {
     /// Returns the ids moved by these offsets, in the widths that they have.
+    #[must_use]
     pub fn moved(self, offsets: IdOffsets) -> PayloadIds {
         PayloadIds {
             picture_id: match self.picture_id {
@@ -120,6 +121,7 @@ impl PayloadIds {
 
 impl ForwardedIds {
     /// Returns the map before the first picture, which gets PictureID 0 and TL0PICIDX 0. Does not allocate.
+    #[must_use]
     pub fn new() -> ForwardedIds {
         ForwardedIds {
             offsets: IdOffsets { picture: 0, tl0: 0 },
@@ -132,6 +134,7 @@ impl ForwardedIds {
 
     /// Returns what is added to the ids of the source's packet with this number. It costs a step for each remembered picture above
     /// it.
+    #[must_use]
     pub fn offsets(&self, number: u64) -> IdOffsets {
         let lower = self.left_out.len() - count_above(&self.left_out, number);
         IdOffsets {
@@ -141,12 +144,14 @@ impl ForwardedIds {
     }
 
     /// Returns what is added to the ids since the last switch, if no picture is left out.
+    #[must_use]
     pub fn begun_offsets(&self) -> IdOffsets {
         self.offsets
     }
 
     /// Returns what is added to the ids of another source, whose first payload has these ids: they follow those of the last picture.
     /// `None`: the payload has no descriptor, and the offsets stay.
+    #[must_use]
     pub fn offsets_switched(&self, ids: Option<PayloadIds>) -> IdOffsets {
         match ids {
             Some(ids) => IdOffsets {

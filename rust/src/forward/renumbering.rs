@@ -81,6 +81,7 @@ pub(crate) fn replace_last(numbers: &mut VecDeque<u64>, number: u64) -> u64 {
 
 impl Renumbering {
     /// Returns the map with which the source's packet `number` is sent under the number `sent`. Does not allocate.
+    #[must_use]
     pub fn new(number: u64, sent: u16) -> Renumbering {
         Renumbering {
             offset: sent.wrapping_sub((number % 65_536) as u16),
@@ -91,6 +92,7 @@ impl Renumbering {
     }
 
     /// Returns the number after the highest one that was given or kept free: a packet after all others is sent under it.
+    #[must_use]
     pub fn next_number(&self) -> u16 {
         self.offset
             .wrapping_add((self.highest % 65_536) as u16)
@@ -122,11 +124,13 @@ impl Renumbering {
     }
 
     /// Returns the highest number of the source so far.
+    #[must_use]
     pub fn highest(&self) -> u64 {
         self.highest
     }
 
     /// Returns what [`Renumbering::place`] answers for a packet that is wanted. The map stays as it is.
+    #[must_use]
     pub fn placed(&self, number: u64) -> Placed {
         if self.is_too_old(number) {
             return Placed::TooOld;
@@ -211,6 +215,7 @@ impl Renumbering {
 
     /// Returns the number of the source's packet that is sent under this number: not above the highest number so far, not left
     /// out, and not too old. `None`: there is no such packet. It costs a step for each remembered number above the packet's.
+    #[must_use]
     pub fn source_of(&self, sent: u16) -> Option<u64> {
         let behind = u64::from(self.next_number().wrapping_sub(sent));
         let given = self.highest - self.left_out.len() as u64;

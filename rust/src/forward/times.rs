@@ -21,6 +21,7 @@ fn later(a: u32, b: u32) -> u32 {
 
 impl Retiming {
     /// Returns the map with which the source's time `time` is sent as `sent`.
+    #[must_use]
     pub fn new(time: u32, sent: u32) -> Retiming {
         Retiming {
             offset: sent.wrapping_sub(time),
@@ -29,6 +30,7 @@ impl Retiming {
     }
 
     /// Returns the time that a packet with this time of the source is sent with.
+    #[must_use]
     pub fn sent_as(&self, time: u32) -> u32 {
         time.wrapping_add(self.offset)
     }
@@ -41,6 +43,7 @@ impl Retiming {
 
     /// Returns the time that the first packet of another source is sent with, if `ticks` have passed since the highest time
     /// that was sent.
+    #[must_use]
     pub fn next_time(&self, ticks: u32) -> u32 {
         self.highest.wrapping_add(ticks)
     }

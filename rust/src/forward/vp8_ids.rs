@@ -39,6 +39,7 @@ fn ids_of(descriptor: &Vp8Descriptor) -> PayloadIds {
 
 impl PayloadIds {
     /// Returns the ids in a payload of VP8. `None`: the payload has no descriptor. Does not allocate.
+    #[must_use]
     pub fn in_vp8(payload: &[u8]) -> Option<PayloadIds> {
         match Vp8Descriptor::parse(payload) {
             Ok(descriptor) => Some(ids_of(&descriptor)),
@@ -49,6 +50,7 @@ impl PayloadIds {
 
 impl IdOffsets {
     /// Returns the patch that gives a payload of VP8 the ids of the viewer's stream. `None`: the payload has no descriptor.
+    #[must_use]
     pub fn patch(self, payload: &[u8]) -> Option<Vp8Patch> {
         let Ok(descriptor) = Vp8Descriptor::parse(payload) else {
             return None;

@@ -105,6 +105,7 @@ impl<'a> Front<'a> {
 impl PayloadIds {
     /// Returns the ids in a payload of VP9. `None`: a byte of its descriptor up to TL0PICIDX is missing. TL0PICIDX is present in the
     /// non-flexible mode, if L is set (RFC 9628, section 4.2). Does not allocate.
+    #[must_use]
     pub fn in_vp9(payload: &[u8]) -> Option<PayloadIds> {
         match Front::read(payload) {
             None => None,

@@ -98,6 +98,7 @@ fn read_layer_frame(flags: u8, bytes: &[u8]) -> Option<LayerFrame> {
 impl LayerFrame {
     /// Reads the payload descriptor of a payload that begins a layer frame in the flexible mode: B and F are set. `None`: it does
     /// not. If the descriptor ends early or has more than three P_DIFFs, the layer frame refers to a picture that is not known.
+    #[must_use]
     pub fn of(payload: &[u8]) -> Option<LayerFrame> {
         let (&flags, rest) = payload.split_first()?;
         if flags & START_OF_FRAME == 0 || flags & FLEXIBLE_MODE == 0 {

@@ -66,6 +66,7 @@ impl FrameNote {
     }
 
     /// The bytes of its dependency descriptor.
+    #[must_use]
     pub fn descriptor(&self) -> Option<&[u8]> {
         match &self.descriptor {
             Some(bytes) => Some(bytes.as_slice()),
@@ -74,6 +75,7 @@ impl FrameNote {
     }
 
     /// The layer frame of VP9 that it begins.
+    #[must_use]
     pub fn layer_frame(&self) -> Option<LayerFrame> {
         self.layer_frame
     }

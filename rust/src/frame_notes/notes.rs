@@ -85,6 +85,7 @@ fn skip(held: &mut TieredQueue<HeldNote>, reader: &mut FrameReader, first: u64, 
 
 impl FrameNotes {
     /// Returns the notes of a new stream: none. `most` is the largest number of notes that are held. Does not allocate.
+    #[must_use]
     pub fn new(most: usize) -> FrameNotes {
         FrameNotes {
             held: TieredQueue::new(),
@@ -95,11 +96,13 @@ impl FrameNotes {
     }
 
     /// Returns the number of notes.
+    #[must_use]
     pub fn len(&self) -> usize {
         self.held.len()
     }
 
     /// Whether there are no notes.
+    #[must_use]
     pub fn is_empty(&self) -> bool {
         self.held.len() == 0
     }
@@ -133,6 +136,7 @@ impl FrameNotes {
     }
 
     /// Removes and returns the note of the latest suspect packet, with its sequence number.
+    #[must_use]
     pub fn take_suspect(&mut self) -> Option<(u16, FrameNote)> {
         self.suspect.take()
     }

@@ -39,6 +39,7 @@ pub struct Freezes {
 
 impl Freezes {
     /// Returns the state before the first frame. `tick_rate` is the number of ticks per second of your clock.
+    #[must_use]
     pub fn new(tick_rate: Frequency) -> Freezes {
         Freezes {
             tick_rate,
@@ -63,6 +64,7 @@ impl Freezes {
     }
 
     /// Returns the counts.
+    #[must_use]
     pub fn counts(&self) -> FreezeCounts {
         self.counts
     }

@@ -230,6 +230,7 @@ impl History {
 
     /// Returns how many numbers the history has places for: from the highest number that was kept down to the lowest, each with a
     /// packet or without one. So 0 means that it is empty.
+    #[must_use]
     pub fn len(&self) -> usize {
         self.packets.len()
     }
@@ -369,6 +370,7 @@ impl History {
     }
 
     /// Returns the datagram with that number as it was kept, if the history has it. It does not count as resent.
+    #[must_use]
     pub fn packet(&self, number: u16) -> Option<&[u8]> {
         let (_, packet) = self.find(number)?;
         Some(&packet.bytes)

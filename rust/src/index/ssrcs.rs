@@ -32,6 +32,7 @@ struct Entry {
 
 impl Ssrcs {
     /// Creates an empty list. Does not allocate.
+    #[must_use]
     pub fn new() -> Ssrcs {
         Ssrcs {
             list: Vec::new(),
@@ -43,6 +44,7 @@ impl Ssrcs {
 
     /// Returns the first place from `from` on that has this SSRC.
     #[inline(always)]
+    #[must_use]
     pub fn find(&self, ssrc: u32, from: usize) -> Option<usize> {
         if self.list.len() <= FEW {
             walk(&self.list, ssrc, from)
@@ -53,6 +55,7 @@ impl Ssrcs {
 
     /// Returns the place that has this SSRC, if one place alone has it. `None`: no place has it, or several have it.
     #[inline(always)]
+    #[must_use]
     pub fn find_only(&self, ssrc: u32) -> Option<usize> {
         if self.list.len() <= FEW {
             walk_only(&self.list, ssrc)

@@ -14,6 +14,7 @@ pub struct Times {
 
 impl Times {
     /// Returns an empty list. Does not allocate.
+    #[must_use]
     pub fn new() -> Times {
         Times { levels: Vec::new() }
     }
@@ -25,11 +26,13 @@ impl Times {
     }
 
     /// Returns the number of times.
+    #[must_use]
     pub fn len(&self) -> usize {
         first_level(&self.levels).len()
     }
 
     /// Returns the least time, or 2^64 - 1 without one.
+    #[must_use]
     pub fn least(&self) -> u64 {
         least(&self.levels)
     }
@@ -40,11 +43,13 @@ impl Times {
     }
 
     /// Returns the first place whose time has come.
+    #[must_use]
     pub fn first(&self, now: u64) -> Option<usize> {
         first(&self.levels, now)
     }
 
     /// Returns the first place from `from` on whose time has come.
+    #[must_use]
     pub fn first_from(&self, from: usize, now: u64) -> Option<usize> {
         if from == 0 {
             return self.first(now);

@@ -9,6 +9,7 @@ use crate::wire::Frequency;
 pub const REPORT_SIZE: usize = 4;
 
 /// The duration of `units` ticks of a clock of this rate, in nanoseconds, rounded to the nearest.
+#[must_use]
 pub fn duration_from_units(units: u16, rate: Frequency) -> u64 {
     let rate = u64::from(rate.get());
     (u64::from(units) * 1_000_000_000 + rate / 2) / rate
@@ -25,6 +26,7 @@ impl TelephoneEvent {
     ///
     /// Written again at the same rate, a report gives its bytes back with the reserved bit clear, if the rate is below
     /// 1,000,000,000 Hz.
+    #[must_use]
     pub fn parse(buf: &[u8], rate: Frequency) -> Option<Self> {
         let [event, flags, high, low, ..] = *buf else {
             return None;
@@ -39,6 +41,7 @@ impl TelephoneEvent {
 
     /// The reports of a payload, in order; `None` unless it consists of one or more whole reports. A sender may put several into
     /// one packet (RFC 4733, section 2.5.1.5). A depacketizer reports only the first; call this for the others.
+    #[must_use]
     pub fn parse_all<'a>(buf: &'a [u8], rate: Frequency) -> Option<TelephoneEvents<'a>> {
         if buf.is_empty() || buf.len() % REPORT_SIZE != 0 {
             return None;
@@ -48,6 +51,7 @@ impl TelephoneEvent {
 
     /// The four bytes of the report; `None` if its duration exceeds 65,535 units of the clock. The reserved bit is clear, and the
     /// low six bits of the volume are written.
+    #[must_use]
     pub fn to_bytes(&self, rate: Frequency) -> Option<[u8; 4]> {
         let [high, low] = units_from_duration(self.duration, rate)?.to_be_bytes();
         let end = if self.end { 0x80 } else { 0 };

@@ -77,6 +77,7 @@ pub struct JitterBuffer<B = NoBox> {
 impl<B: Depacketizer> JitterBuffer<B> {
     /// Creates a jitter buffer for RTP timestamps of `clock_rate`, with a limit of 4,096 packets and number windows of 3,000
     /// ahead and 1,000 behind. Allocates nothing.
+    #[must_use]
     pub fn new(
         depacketizer: CodecDepacketizer<B>,
         clock_rate: Frequency,
@@ -91,6 +92,7 @@ impl<B: Depacketizer> JitterBuffer<B> {
     /// # Panics
     ///
     /// Unless `buffer.held() == 0`.
+    #[must_use]
     pub fn over(
         numbers: SequenceNumbers,
         buffer: DepacketizingBuffer<B>,
@@ -122,6 +124,7 @@ impl<B: Depacketizer> JitterBuffer<B> {
     ///
     /// A call of [`JitterBuffer::push`] stores at most two packets. A RED packet stores at most one packet for each of its
     /// blocks. Callers that receive several packets between two pops can keep more places free.
+    #[must_use]
     pub fn with_room_for(self, packets: usize) -> Self {
         let room = room_for(self.buffer.limit(), packets.max(AT_ONCE));
         JitterBuffer { room, ..self }
@@ -254,6 +257,7 @@ impl<B: Depacketizer> JitterBuffer<B> {
 
     /// Returns whether a packet with this sequence number would be stored: the number is within the windows, and neither held
     /// nor late.
+    #[must_use]
     pub fn would_store(&self, low: u16) -> bool {
         match self.number_again(low) {
             Some(number) => is_stored(outcome_in(&self.buffer, SeqNo(number))),
@@ -269,6 +273,7 @@ impl<B: Depacketizer> JitterBuffer<B> {
     /// Returns the missing numbers in rising order, at most `most` of them. A missing number is above the cutoff and above the
     /// lowest number since the latest restart, below the highest number, and neither held nor without media. The low 16 bits of
     /// each number go into a generic NACK (RFC 4585, section 6.2.1). Allocates nothing.
+    #[must_use]
     pub fn missing(&self, most: usize) -> MissingNumbers<'_, B> {
         MissingNumbers::of(self, most)
     }
@@ -283,6 +288,7 @@ impl<B: Depacketizer> JitterBuffer<B> {
 
     /// Returns the highest extended number so far.
     #[inline(always)]
+    #[must_use]
     pub fn greatest(&self) -> Option<u64> {
         self.numbers.greatest()
     }
@@ -307,6 +313,7 @@ impl<B: Depacketizer> JitterBuffer<B> {
     ///
     /// `OutOfMemory`: the frame is kept; call again. Any other error: the payloads of a frame are invalid, and the frame is
     /// dropped.
+    #[must_use]
     pub fn pop(&mut self, now: Ticks) -> Option<Result<Depacketized, PacketError>> {
         self.settle();
         let Some(hold_back) = self.waiting(now) else {
@@ -324,6 +331,7 @@ impl<B: Depacketizer> JitterBuffer<B> {
     /// Returns the time from which a pop waits for nothing, even if no packet arrives: `max_wait` ticks after the last packet
     /// of the first complete frame arrived. Returns `None` if no frame is complete or if `max_wait` is `None`. Use it as the
     /// timeout of a poll.
+    #[must_use]
     pub fn next_deadline(&self) -> Option<Ticks> {
         deadline(self.wait_limits.max_wait, self.buffer.ready_since())
     }
@@ -336,11 +344,13 @@ impl<B: Depacketizer> JitterBuffer<B> {
     }
 
     /// Returns how long the jitter buffer waits for missing packets.
+    #[must_use]
     pub fn wait_limits(&self) -> WaitLimits {
         self.wait_limits
     }
 
     /// Returns whether the stream has ended, by a call of [`JitterBuffer::finish`].
+    #[must_use]
     pub fn has_ended(&self) -> bool {
         self.ended
     }
@@ -363,6 +373,7 @@ impl<B: Depacketizer> JitterBuffer<B> {
     }
 
     /// Returns the counters of all packets by outcome.
+    #[must_use]
     pub fn counters(&self) -> PacketCounters {
         self.counters
     }

@@ -29,6 +29,7 @@ pub enum Extended {
 impl Extended {
     /// Returns the extended number, if the packet got one.
     #[inline(always)]
+    #[must_use]
     pub fn number(self) -> Option<u64> {
         match self {
             Extended::Number(number) | Extended::Restarted(number) => Some(number),
@@ -83,6 +84,7 @@ pub struct SequenceNumbers {
 
 impl SequenceNumbers {
     /// Creates a numbering with windows of 3,000 numbers ahead and 1,000 behind.
+    #[must_use]
     pub fn new() -> Self {
         SequenceNumbers {
             greatest: None,
@@ -115,6 +117,7 @@ impl SequenceNumbers {
     }
 
     /// Returns a numbering with the same windows, before its first packet.
+    #[must_use]
     pub fn anew(&self) -> Self {
         SequenceNumbers {
             greatest: None,
@@ -168,6 +171,7 @@ impl SequenceNumbers {
     }
 
     /// Returns the highest extended number so far.
+    #[must_use]
     pub fn greatest(&self) -> Option<u64> {
         self.greatest
     }

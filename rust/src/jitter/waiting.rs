@@ -9,6 +9,7 @@ use crate::wire::Ticks;
 /// Times are in ticks of the clock that you pass to the calls that receive and pop. The constructors assume ticks of
 /// milliseconds. Any values are accepted.
 #[derive(Clone, Copy, Debug, PartialEq, Eq)]
+#[cfg_attr(not(feature = "exhaustive"), non_exhaustive)]
 pub struct WaitLimits {
     /// A frame behind a gap is released once more complete frames than this are held. `None`: no frame is released by count
     /// alone.
@@ -23,29 +24,34 @@ pub struct WaitLimits {
 
 impl WaitLimits {
     /// Returns limits for live audio or video without retransmission: a lost packet delays frames by at most 100 ms.
-    pub fn live() -> WaitLimits {
+    #[must_use]
+    pub const fn live() -> WaitLimits {
         WaitLimits::for_live(1, 100)
     }
 
     /// Returns limits for live audio with retransmission (RFC 4585): at most 200 ms.
-    pub fn live_with_nack() -> WaitLimits {
+    #[must_use]
+    pub const fn live_with_nack() -> WaitLimits {
         WaitLimits::for_live(1, 200)
     }
 
     /// Returns limits for live video with retransmission: at most 200 ms, and the first frame waits for two more frames.
-    pub fn live_video_with_nack() -> WaitLimits {
+    #[must_use]
+    pub const fn live_video_with_nack() -> WaitLimits {
         WaitLimits::for_live(2, 200)
     }
 
     /// Returns limits for live media with retransmission over a path with this round-trip time: two round trips and 100 ms, so
     /// that a lost retransmission can be repeated once. At most 2^64 - 1 ms.
+    #[must_use]
     pub fn for_round_trip(milliseconds: u64) -> WaitLimits {
         WaitLimits::for_live(1, milliseconds.saturating_mul(2).saturating_add(100))
     }
 
     /// Returns limits for packets from a file: a frame behind a gap waits until the stream is finished, or the buffer has
     /// little room left.
-    pub fn file() -> WaitLimits {
+    #[must_use]
+    pub const fn file() -> WaitLimits {
         WaitLimits {
             hold_back: None,
             start: 0,
@@ -54,6 +60,7 @@ impl WaitLimits {
     }
 
     /// Returns the largest number of complete frames that wait behind a gap: `hold_back`, or `usize::MAX` for no bound.
+    #[must_use]
     pub fn most_held_back(self) -> usize {
         match self.hold_back {
             Some(frames) => frames,
@@ -62,7 +69,7 @@ impl WaitLimits {
     }
 
     /// Returns limits by time alone.
-    fn for_live(start: usize, milliseconds: u64) -> WaitLimits {
+    const fn for_live(start: usize, milliseconds: u64) -> WaitLimits {
         WaitLimits {
             hold_back: None,
             start,

@@ -9,6 +9,7 @@ use crate::media::frame_info::{FrameInfo, frame_info};
 use crate::wire::Codec;
 
 /// Whether a codec has keyframes: VP8, VP9 and AV1.
+#[must_use]
 #[doc(hidden)]
 pub fn is_video(codec: Codec) -> bool {
     matches!(codec, Codec::Vp8 | Codec::Vp9 | Codec::Av1)
@@ -17,6 +18,7 @@ pub fn is_video(codec: Codec) -> bool {
 /// Whether a unit is a keyframe by its own bits: the frame header of VP8 (RFC 6386, section 9.1) or VP9 (VP9 bitstream
 /// specification, section 6.2), or the first frame header of an AV1 temporal unit. A malformed unit is not a keyframe. Does not
 /// allocate.
+#[must_use]
 pub fn is_keyframe(codec: Codec, unit: &[u8]) -> bool {
     match frame_info(codec, unit) {
         Ok(FrameInfo {
@@ -56,6 +58,7 @@ pub struct KeyframeGate {
 
 impl KeyframeGate {
     /// A gate for a new stream of this codec: no unit was released, and no keyframe is needed yet.
+    #[must_use]
     pub fn new(codec: Codec) -> KeyframeGate {
         KeyframeGate {
             codec,
@@ -222,11 +225,13 @@ impl KeyframeGate {
     /// Whether a keyframe is needed: from the first event that needs one until a keyframe is released, or a unit of the base layer
     /// that can be shown. A unit above the base layer that cannot be shown needs none, if its unit of the base layer can, or if it names
     /// its references.
+    #[must_use]
     pub fn wants_keyframe(&self) -> bool {
         self.wants
     }
 
     /// Whether a decoder can show the unit that was released last.
+    #[must_use]
     pub fn shows_last(&self) -> bool {
         self.shows
     }

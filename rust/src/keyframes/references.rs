@@ -33,6 +33,7 @@ pub struct UnitReferences {
 impl Referring {
     /// Returns the picture of a unit of VP9 with a picture id, whose payload descriptors are in the flexible mode and have these P_DIFFs:
     /// see [`UnitReferences::differences`]. `None`: it has no picture id, it is not in the flexible mode, or not of VP9.
+    #[must_use]
     pub fn of_picture(extra: &CodecExtra, differences: Option<u128>) -> Option<Referring> {
         let CodecExtra::Vp9(vp9) = extra else {
             return None;
@@ -51,6 +52,7 @@ impl Referring {
 
 impl UnitReferences {
     /// What a unit says without a dependency descriptor and without P_DIFFs.
+    #[must_use]
     pub fn none() -> UnitReferences {
         UnitReferences {
             descriptor: None,
@@ -77,6 +79,7 @@ pub struct References {
 impl References {
     /// The frames after this keyframe, which can be shown whatever it refers to. A keyframe replaces everything that a frame could refer
     /// to, so a later frame that names one from before it refers to the keyframe: numbers below its frames count as its own.
+    #[must_use]
     pub fn after_keyframe(key: Referring) -> References {
         References {
             last: key.number,

@@ -30,6 +30,7 @@ pub struct UnitGate {
 
 impl UnitGate {
     /// A gate for a new stream of this codec.
+    #[must_use]
     pub fn new(codec: Codec, from_keyframe: FromKeyframe) -> UnitGate {
         UnitGate {
             gate: KeyframeGate::new(followed_codec(from_keyframe, codec)),
@@ -85,21 +86,25 @@ impl UnitGate {
     }
 
     /// Returns whether a keyframe is needed. See [`KeyframeGate::wants_keyframe`].
+    #[must_use]
     pub fn wants_keyframe(&self) -> bool {
         self.gate.wants_keyframe()
     }
 
     /// Returns whether a decoder can show the unit that was recorded last.
+    #[must_use]
     pub fn is_decodable(&self) -> bool {
         self.gate.shows_last()
     }
 
     /// Returns whether the unit that was recorded last is a keyframe.
+    #[must_use]
     pub fn is_keyframe(&self) -> bool {
         self.is_keyframe
     }
 
     /// Returns how many units a decoder could not show, modulo 2^64.
+    #[must_use]
     pub fn undecodable(&self) -> u64 {
         self.undecodable
     }

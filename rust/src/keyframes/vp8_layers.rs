@@ -23,6 +23,7 @@ pub struct Vp8Picture {
 impl Vp8Picture {
     /// Returns the picture of a unit of VP8 whose descriptors have PictureID and TL0PICIDX. `None`: they do not, the layer is above
     /// 3, or the unit is of another codec.
+    #[must_use]
     pub fn of(extra: &CodecExtra) -> Option<Vp8Picture> {
         let CodecExtra::Vp8(vp8) = extra else {
             return None;

@@ -24,6 +24,7 @@ pub struct TemporalLayer {
 /// - other codecs: any packet.
 ///
 /// A forwarder begins with the same packets.
+#[must_use]
 pub fn begins_keyframe(codec: Codec, payload: &[u8]) -> bool {
     match codec {
         Codec::Vp8 => detect_vp8_keyframe(payload),
@@ -36,6 +37,7 @@ pub fn begins_keyframe(codec: Codec, payload: &[u8]) -> bool {
 /// Returns the temporal layer of a packet of VP8 (RFC 7741, section 4.2) or VP9 (RFC 9628, section 4.2), if its payload names one. A
 /// server leaves packets out by it. AV1 has its layers in the dependency
 /// descriptor.
+#[must_use]
 pub fn temporal_layer(codec: Codec, payload: &[u8]) -> Option<TemporalLayer> {
     match codec {
         Codec::Vp8 => vp8_layer_in(payload),

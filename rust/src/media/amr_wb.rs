@@ -73,6 +73,7 @@ pub struct AmrWbFrames<'a> {
 
 impl<'a> AmrWbFrames<'a> {
     /// The frames in these bytes.
+    #[must_use]
     pub fn new(unit: &'a [u8]) -> AmrWbFrames<'a> {
         AmrWbFrames { bytes: unit }
     }

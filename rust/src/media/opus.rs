@@ -204,6 +204,7 @@ impl OpusPacket {
 
     /// The duration of the packet, in ticks of the RTP clock, which are samples at 48 kHz. At most 5,760 (120 ms) for a packet from
     /// `parse`.
+    #[must_use]
     pub fn ticks(&self) -> u32 {
         u32::from(self.frames) * u32::from(self.frame_ticks)
     }
@@ -226,6 +227,7 @@ impl OpusHead {
     /// # Panics
     ///
     /// Unless `(1..=2).contains(&self.channels)`.
+    #[must_use]
     pub fn to_bytes(&self) -> [u8; OPUS_HEAD_LEN] {
         assert!((1..=2).contains(&self.channels));
         let [p0, p1] = self.pre_skip.to_le_bytes();

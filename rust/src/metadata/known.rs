@@ -182,6 +182,7 @@ impl PackedMeta {
 
     /// Makes the metadata of a packet that arrived at `received`, without a sender report. Allocates nothing.
     #[inline(always)]
+    #[must_use]
     pub fn new(received: Ticks, time: MediaTime, seq_no: SeqNo, header: PackedHeader) -> Self {
         PackedMeta {
             received,
@@ -253,6 +254,7 @@ impl PackedMeta {
     }
 
     /// Returns the metadata of the packet, as users see it.
+    #[must_use]
     pub fn meta(&self) -> RtpMeta {
         match &self.rare {
             Some(rare) => self.meta_with(self.plain.values_with(rare), rare.last_sender_info),

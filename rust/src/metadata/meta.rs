@@ -20,6 +20,7 @@ impl RtpMeta {
     /// Returns the metadata of a packet from its number, RTP time, payload type and time of arrival. The header gets the low 16
     /// bits of the number and the low 32 bits of the time, no marker, the SSRC 0 and no values of header extensions. There is
     /// no sender report. All fields are public: set the values that you have.
+    #[must_use]
     pub fn of(seq_no: SeqNo, time: MediaTime, payload_type: Pt, received: Ticks) -> Self {
         RtpMeta {
             received,

@@ -31,6 +31,7 @@ impl PackedHeader {
 
     /// Makes the header of a packet without header extensions. Allocates nothing.
     #[inline(always)]
+    #[must_use]
     pub fn plain(
         payload_type: Pt,
         sequence_number: u16,
@@ -56,6 +57,7 @@ impl PackedHeader {
 
     /// Replaces the values of header extensions by these small ones. Allocates nothing.
     #[inline(always)]
+    #[must_use]
     pub fn with_small_values(
         self,
         video_orientation: Option<u8>,
@@ -77,17 +79,20 @@ impl PackedHeader {
 
     /// Returns the sequence number.
     #[inline(always)]
+    #[must_use]
     pub fn sequence_number(&self) -> u16 {
         self.plain.sequence_number
     }
 
     /// Returns the RTP time.
     #[inline(always)]
+    #[must_use]
     pub fn timestamp(&self) -> u32 {
         self.plain.timestamp
     }
 
     /// Returns the header as an [`RtpHeader`].
+    #[must_use]
     pub fn header(&self) -> RtpHeader {
         self.plain.with(self.plain.all_values(&self.rare))
     }

@@ -22,6 +22,7 @@ impl MemorySink {
     /// # Panics
     ///
     /// Unless `first <= 1 << 62`.
+    #[must_use]
     pub fn new(first: u64) -> Self {
         assert!(first <= 1 << 62);
         MemorySink {
@@ -31,6 +32,7 @@ impl MemorySink {
     }
 
     /// Returns the sent packets, in order.
+    #[must_use]
     pub fn packets(&self) -> &[OutgoingPacket] {
         &self.kept
     }

@@ -24,6 +24,7 @@ impl Payloader {
     /// # Panics
     ///
     /// Unless `first_id <= 32_767`.
+    #[must_use]
     pub fn new(spec: CodecSpec, mode: Vp9PacketizerMode, first_id: u16) -> Option<Self> {
         assert!(first_id <= 32_767);
         let mut packetizer = CodecPacketizer::new(spec.codec, mode, first_id)?;
@@ -34,6 +35,7 @@ impl Payloader {
 
 impl<B: Packetizer> Payloader<B> {
     /// Returns a payloader with this packetizer and this rate of the RTP clock.
+    #[must_use]
     pub fn with_packetizer(packetizer: CodecPacketizer<B>, rate: Frequency) -> Self {
         Payloader {
             packetizer,
@@ -42,6 +44,7 @@ impl<B: Packetizer> Payloader<B> {
     }
 
     /// Returns the rate of the RTP clock.
+    #[must_use]
     pub fn clock_rate(&self) -> Frequency {
         self.clock_rate
     }

@@ -34,6 +34,7 @@ pub struct TieredQueue<T: Numbered> {
 
 impl<T: Numbered> TieredQueue<T> {
     /// Returns an empty queue. Allocates nothing.
+    #[must_use]
     pub fn new() -> Self {
         TieredQueue {
             first: VecDeque::new(),
@@ -44,18 +45,21 @@ impl<T: Numbered> TieredQueue<T> {
 
     /// Returns the number of items.
     #[inline(always)]
+    #[must_use]
     pub fn len(&self) -> usize {
         self.count
     }
 
     /// Returns the first item.
     #[inline(always)]
+    #[must_use]
     pub fn front(&self) -> Option<&T> {
         self.first.front()
     }
 
     /// Returns the last item.
     #[inline(always)]
+    #[must_use]
     pub fn back(&self) -> Option<&T> {
         let len = self.first.len();
         if self.count > len {
@@ -69,6 +73,7 @@ impl<T: Numbered> TieredQueue<T> {
 
     /// Returns the item at a place.
     #[inline(always)]
+    #[must_use]
     pub fn at(&self, place: usize) -> &T {
         if place < self.first.len() {
             &self.first[place]
@@ -150,6 +155,7 @@ impl<T: Numbered> TieredQueue<T> {
     /// Returns how many items have a lower number. The last item and the first one are inspected first, then the place that is
     /// right if no number is missing above it. Then it searches: the time grows with the logarithm of the number of items.
     #[inline(always)]
+    #[must_use]
     pub fn place_of(&self, number: u64) -> usize {
         match self.back() {
             Some(last) if number <= last.number() => self.place_inside(number),
@@ -159,6 +165,7 @@ impl<T: Numbered> TieredQueue<T> {
 
     /// Returns the same as [`TieredQueue::place_of`]. This place is inspected first.
     #[inline(always)]
+    #[must_use]
     pub fn place_near(&self, place: usize, number: u64) -> usize {
         if self.is_place(place, number) {
             place

@@ -40,6 +40,7 @@ pub(crate) fn fits_fields(offset: u32, len: usize) -> bool {
 impl RedundantBlock {
     /// Whether the header has room for the block: the timestamp offset is at most 16,383 ticks and the payload has at
     /// most 1,023 bytes (RFC 2198, section 3).
+    #[must_use]
     pub fn fits(&self) -> bool {
         fits_fields(self.timestamp_offset, self.payload.len())
     }
@@ -249,6 +250,7 @@ pub struct SamePtBlocks<'a> {
 }
 
 /// The blocks of this payload type with a timestamp offset above 0, in order. Does not allocate.
+#[must_use]
 pub fn red_same_pt_blocks<'a>(blocks: &'a [RedBlock<'a>], pt: u8) -> SamePtBlocks<'a> {
     SamePtBlocks { blocks, pt, at: 0 }
 }

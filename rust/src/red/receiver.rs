@@ -36,6 +36,7 @@ pub struct RedReceiver {
 impl RedReceiver {
     /// A receiver of blocks of the payload type `primary_pt` (low 7 bits), for packets that are `step` ticks of the RTP clock
     /// apart. `None` if `step` is 0 or above 16,383, the greatest offset of a block. Does not allocate.
+    #[must_use]
     pub fn new(primary_pt: u8, step: u32) -> Option<Self> {
         if step == 0 || step > MAX_OFFSET {
             return None;
@@ -47,11 +48,13 @@ impl RedReceiver {
     }
 
     /// The payload type of the blocks that count, from 0 to 127.
+    #[must_use]
     pub fn primary_pt(&self) -> u8 {
         self.primary_pt
     }
 
     /// The packet in one block of a payload, if there is one, by the rules of [`RedReceiver::recover`]. Does not allocate.
+    #[must_use]
     pub fn recover_block<'a>(
         &self,
         seq_no: SeqNo,

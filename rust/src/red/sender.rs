@@ -174,6 +174,7 @@ pub struct RedSender {
 
 impl RedSender {
     /// Whether a sender takes these distances: they rise strictly, and each is from 1 to 8. The empty list is taken too.
+    #[must_use]
     pub fn accepts(distances: &[u32]) -> bool {
         let mut low = 0;
         for distance in distances {
@@ -194,6 +195,7 @@ impl RedSender {
     /// # Panics
     ///
     /// Unless `RedSender::accepts(distances)`.
+    #[must_use]
     pub fn new(red_pt: Pt, primary_pt: Pt, distances: &[u32]) -> Self {
         assert!(RedSender::accepts(distances));
         RedSender {
@@ -222,6 +224,7 @@ impl RedSender {
     }
 
     /// The payload type of the packets.
+    #[must_use]
     pub fn red_pt(&self) -> Pt {
         self.red_pt
     }

@@ -19,6 +19,7 @@ pub struct KeyframeRequests {
 impl KeyframeRequests {
     /// Returns a schedule without requests so far; no keyframe is needed. `interval` is the least number of ticks between two
     /// requests: 500 ms suit live video.
+    #[must_use]
     pub fn new(interval: u64) -> KeyframeRequests {
         KeyframeRequests {
             interval,
@@ -33,6 +34,7 @@ impl KeyframeRequests {
     }
 
     /// Returns whether a keyframe is needed.
+    #[must_use]
     pub fn is_wanted(&self) -> bool {
         self.wanted
     }
@@ -65,6 +67,7 @@ impl KeyframeRequests {
     }
 
     /// Returns the moment from which on a request is due: `Ticks(0)` if the first one is. `None`: no keyframe is needed.
+    #[must_use]
     pub fn next_deadline(&self) -> Option<Ticks> {
         match self.next {
             Some(next) if self.wanted => Some(Ticks(next)),

@@ -11,6 +11,7 @@ use core::mem::swap;
 /// When missing packets are requested. Times are in ticks of your clock; the defaults are for milliseconds. Any values may
 /// be given.
 #[derive(Clone, Copy, Debug, PartialEq, Eq)]
+#[cfg_attr(not(feature = "exhaustive"), non_exhaustive)]
 pub struct NackSettings {
     /// Ticks from the moment that a number is first reported missing until its first request. 10 by default: packets that are only
     /// reordered arrive in that time. With 0 each gap is requested at once.
@@ -30,7 +31,8 @@ pub struct NackSettings {
 
 impl NackSettings {
     /// Returns the defaults, for a clock in milliseconds.
-    pub fn live() -> NackSettings {
+    #[must_use]
+    pub const fn live() -> NackSettings {
         NackSettings {
             first_wait: 10,
             retry: 100,
@@ -43,6 +45,7 @@ impl NackSettings {
 
     /// Returns the number of ticks between two requests of a number at this round trip: 9/8 of it and half of `first_wait`, so that an
     /// answer that is a little late comes before the next request, within `shortest_retry` and `longest_retry`.
+    #[must_use]
     pub fn retry_for(&self, round_trip: u64) -> u64 {
         round_trip
             .saturating_add(round_trip / 8)
@@ -53,6 +56,7 @@ impl NackSettings {
 
     /// Returns the number of ticks from the moment that a number is first reported missing until its last request is answered, if two
     /// requests are `retry` ticks apart: `first_wait`, and `tries` times `retry`. 2^64 - 1 if it is longer.
+    #[must_use]
     pub fn answer_time(&self, retry: u64) -> u64 {
         retry
             .saturating_mul(u64::from(self.tries))
@@ -94,6 +98,7 @@ pub struct NackSchedule {
 
 impl NackSchedule {
     /// Returns a schedule without missing numbers. Does not allocate.
+    #[must_use]
     pub fn new(settings: NackSettings) -> NackSchedule {
         NackSchedule {
             settings,
@@ -169,12 +174,14 @@ impl NackSchedule {
     }
 
     /// Returns whether no number is missing, by the latest `refresh`.
+    #[must_use]
     pub fn is_empty(&self) -> bool {
         self.pending.is_empty()
     }
 
     /// Returns when the next number is due. `None`: no number is due without a `refresh`. At that moment and later `take_due`
     /// appends at least one number, before it none.
+    #[must_use]
     pub fn next_deadline(&self) -> Option<Ticks> {
         match self.earliest {
             Some(at) => Some(Ticks(at)),
@@ -197,12 +204,14 @@ impl NackSchedule {
     }
 
     /// Returns whether a missing number with these 16 bits was requested.
+    #[must_use]
     pub fn has_requested(&self, number: u16) -> bool {
         requested(&self.pending, number).is_some()
     }
 
     /// Returns the round-trip time in ticks: what reports say, or else the median of the latest five answers. `None`: no request was
     /// answered.
+    #[must_use]
     pub fn round_trip(&self) -> Option<u64> {
         self.trip.value()
     }
@@ -210,6 +219,7 @@ impl NackSchedule {
     /// Returns how long a packet that is missing is worth waiting for, in ticks: [`NackSettings::answer_time`] of the time between two
     /// requests, now or of a number that is missing. `None`: the round trip is not sure, since reports do not say it, and fewer than two
     /// requests were answered. The first answer alone may be a packet that came by itself.
+    #[must_use]
     pub fn answer_time(&self) -> Option<u64> {
         match self.trip.sure_value() {
             Some(round_trip) => {
@@ -222,6 +232,7 @@ impl NackSchedule {
 
     /// Returns the number of ticks between two requests of a number: `retry`, or once the round-trip time is known that of
     /// [`NackSettings::retry_for`]; by one answer alone at least `retry`.
+    #[must_use]
     pub fn retry_time(&self) -> u64 {
         retry_time(&self.settings, &self.trip)
     }

@@ -29,6 +29,7 @@ pub struct RoundTrip {
 
 impl RoundTrip {
     /// Returns the state before the first answer.
+    #[must_use]
     pub fn new() -> RoundTrip {
         RoundTrip {
             latest: [0; KEPT],
@@ -52,6 +53,7 @@ impl RoundTrip {
     }
 
     /// Returns the round trip. `None`: there was no answer, and reports say nothing.
+    #[must_use]
     pub fn value(&self) -> Option<u64> {
         match self.reported {
             Some(reported) => Some(reported),
@@ -60,11 +62,13 @@ impl RoundTrip {
     }
 
     /// Returns whether the round trip is sure: reports say it, or two answers came.
+    #[must_use]
     pub fn is_sure(&self) -> bool {
         self.reported.is_some() || self.known >= SURE
     }
 
     /// Returns the round trip once it is sure.
+    #[must_use]
     pub fn sure_value(&self) -> Option<u64> {
         if self.is_sure() { self.value() } else { None }
     }

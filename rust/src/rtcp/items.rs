@@ -39,6 +39,7 @@ impl ReportBlock {
     fn known(self) {}
 
     /// Whether the block can be written: the cumulative number of packets lost has 24 bits.
+    #[must_use]
     pub fn fits(&self) -> bool {
         self.cumulative_lost < 16_777_216
     }
@@ -95,6 +96,7 @@ fn word_in(place: usize, bytes: &[u8]) -> u32 {
 }
 
 /// Returns the report block of that index, of report blocks as they are in a packet.
+#[must_use]
 pub fn report_block(blocks: &[u8], index: usize) -> Option<ReportBlock> {
     if index >= blocks.len() / 24 {
         return None;
@@ -114,6 +116,7 @@ pub fn report_block(blocks: &[u8], index: usize) -> Option<ReportBlock> {
 
 impl<'a> SenderReport<'a> {
     /// Returns the report block of that index.
+    #[must_use]
     pub fn block(&self, index: usize) -> Option<ReportBlock> {
         report_block(self.blocks, index)
     }
@@ -121,6 +124,7 @@ impl<'a> SenderReport<'a> {
 
 impl<'a> ReceiverReport<'a> {
     /// Returns the report block of that index.
+    #[must_use]
     pub fn block(&self, index: usize) -> Option<ReportBlock> {
         report_block(self.blocks, index)
     }
@@ -128,11 +132,13 @@ impl<'a> ReceiverReport<'a> {
 
 impl<'a> Goodbye<'a> {
     /// Returns how many sources leave.
+    #[must_use]
     pub fn count(&self) -> usize {
         self.ssrcs.len() / 4
     }
 
     /// Returns the source of that index.
+    #[must_use]
     pub fn ssrc(&self, index: usize) -> Option<u32> {
         if index >= self.count() {
             return None;
@@ -143,6 +149,7 @@ impl<'a> Goodbye<'a> {
 
 impl<'a> FullIntraRequest<'a> {
     /// Returns the entry of that index.
+    #[must_use]
     pub fn entry(&self, index: usize) -> Option<FullIntraEntry> {
         if index >= self.entries.len() / 8 {
             return None;

@@ -16,6 +16,7 @@ pub struct NackNumbers<'a> {
 
 impl<'a> Nack<'a> {
     /// Returns the numbers of the packets that are missing: for each pair the PID, then the numbers that the BLP marks.
+    #[must_use]
     pub fn numbers(&self) -> NackNumbers<'a> {
         NackNumbers {
             number: 0,

@@ -139,6 +139,7 @@ impl<'a> Iterator for SdesChunks<'a> {
 
 impl<'a> SourceDescription<'a> {
     /// Returns the chunks, in order.
+    #[must_use]
     pub fn chunks(&self) -> SdesChunks<'a> {
         SdesChunks {
             count: self.count,
@@ -159,11 +160,13 @@ fn text_of<'a>(kind: u8, items: SdesItems<'a>) -> Option<&'a [u8]> {
 
 impl<'a> SdesChunk<'a> {
     /// Returns the items, in order.
+    #[must_use]
     pub fn items(&self) -> SdesItems<'a> {
         SdesItems { bytes: self.items }
     }
 
     /// Returns the canonical name of the source, if there is one.
+    #[must_use]
     pub fn cname(&self) -> Option<&'a [u8]> {
         text_of(CNAME, self.items())
     }
@@ -171,6 +174,7 @@ impl<'a> SdesChunk<'a> {
 
 impl<'a> SdesItem<'a> {
     /// Whether the item can be written: its type is 1 to 255, and its text has at most 255 bytes.
+    #[must_use]
     pub fn fits(&self) -> bool {
         1 <= self.kind && self.text.len() <= 255
     }

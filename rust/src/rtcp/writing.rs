@@ -69,6 +69,7 @@ impl PictureLoss {
 
 impl<'a> Nack<'a> {
     /// Whether the packet can be written: it has 1 to 65,533 pairs.
+    #[must_use]
     pub fn fits(&self) -> bool {
         are_items(4, 1, 262_132, self.pairs)
     }
@@ -86,6 +87,7 @@ impl<'a> Nack<'a> {
 
 impl<'a> FullIntraRequest<'a> {
     /// Whether the packet can be written: it has 1 to 32,766 entries.
+    #[must_use]
     pub fn fits(&self) -> bool {
         are_items(8, 1, 262_132, self.entries)
     }
@@ -106,6 +108,7 @@ impl<'a> SenderReport<'a> {
     fn known(self) {}
 
     /// Whether the packet can be written: it has at most 31 report blocks, and at most 65,343 words of extension.
+    #[must_use]
     pub fn fits(&self) -> bool {
         report_fits(self.blocks, self.extension)
     }
@@ -142,6 +145,7 @@ impl<'a> SenderReport<'a> {
 
 impl<'a> ReceiverReport<'a> {
     /// Whether the packet can be written: it has at most 31 report blocks, and at most 65,343 words of extension.
+    #[must_use]
     pub fn fits(&self) -> bool {
         report_fits(self.blocks, self.extension)
     }
@@ -193,6 +197,7 @@ fn known_bytes(_bytes: &[u8]) {}
 impl<'a> SourceDescription<'a> {
     /// Whether the packet can be written: it has at most 31 chunks, they are read without a fault, and they are at most 65,535
     /// whole words.
+    #[must_use]
     pub fn fits(&self) -> bool {
         self.count <= 31
             && are_items(4, 0, 262_140, self.chunks)
@@ -231,6 +236,7 @@ fn write_leaving_for(ssrcs: &[u8], reason: &[u8], out: &mut Vec<u8>) -> Result<(
 
 impl<'a> Goodbye<'a> {
     /// Whether the packet can be written: it has at most 31 sources, and a reason of at most 255 bytes, if there is one.
+    #[must_use]
     pub fn fits(&self) -> bool {
         let short = match self.reason {
             None => true,
@@ -255,6 +261,7 @@ impl<'a> Goodbye<'a> {
 
 /// Returns whether [`write_padded`] can add `padding` bytes to a packet: `padding` is 4 to 252, a multiple of 4, the packet has no
 /// padding yet (P is clear), and at most 65,536 words result.
+#[must_use]
 pub fn padding_fits(packet: &[u8], padding: u8) -> bool {
     4 <= packet.len()
         && packet[0] <= 159

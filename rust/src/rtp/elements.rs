@@ -16,6 +16,7 @@ pub enum ElementForm {
 
 impl ElementForm {
     /// The form for the 16 bits of a profile: 0xBEDE, or 0x1000 to 0x100F; `None` for another type of extension.
+    #[must_use]
     pub fn of_profile(profile: u16) -> Option<ElementForm> {
         if profile == 0xBEDE {
             return Some(ElementForm::OneByte);
@@ -27,6 +28,7 @@ impl ElementForm {
     }
 
     /// The profile that says the form, with the low four bits 0.
+    #[must_use]
     pub fn profile(self) -> u16 {
         match self {
             ElementForm::OneByte => 0xBEDE,
@@ -46,6 +48,7 @@ pub struct Element<'a> {
 
 impl<'a> Element<'a> {
     /// Whether a form has room for the element.
+    #[must_use]
     pub fn fits(&self, form: ElementForm) -> bool {
         let len = self.bytes.len();
         match form {
@@ -66,6 +69,7 @@ impl<'a> Element<'a> {
 }
 
 /// Whether a form has room for all of the elements.
+#[must_use]
 #[doc(hidden)]
 pub fn all_fit(form: ElementForm, elements: &[Element<'_>]) -> bool {
     for element in elements {
@@ -77,6 +81,7 @@ pub fn all_fit(form: ElementForm, elements: &[Element<'_>]) -> bool {
 }
 
 /// The one-byte form if it has room for all elements, else the two-byte form.
+#[must_use]
 #[doc(hidden)]
 pub fn form_for(elements: &[Element<'_>]) -> ElementForm {
     if all_fit(ElementForm::OneByte, elements) {
@@ -177,12 +182,14 @@ pub struct Elements<'a> {
 
 impl<'a> Elements<'a> {
     /// The elements in these bytes.
+    #[must_use]
     pub fn new(form: ElementForm, bytes: &'a [u8]) -> Elements<'a> {
         Elements { form, bytes }
     }
 
     /// Whether the remaining bytes begin with an element that extends beyond their end. After the last element, this says whether
     /// the extension was cut off.
+    #[must_use]
     pub fn is_cut(&self) -> bool {
         let rest = skip_padding(self.bytes);
         match (self.form, rest) {

@@ -86,11 +86,13 @@ fn are_words(most: usize, bytes: &[u8]) -> bool {
 
 impl<'a> HeaderExtension<'a> {
     /// Whether the length has room for the bytes: they are whole words of four bytes, at most 65,535.
+    #[must_use]
     pub fn fits(&self) -> bool {
         are_words(65_535, self.bytes)
     }
 
     /// The elements of the extension (RFC 8285); `None` if its profile is of another type.
+    #[must_use]
     pub fn elements(&self) -> Option<Elements<'a>> {
         match ElementForm::of_profile(self.profile) {
             Some(form) => Some(Elements::new(form, self.bytes)),
@@ -142,6 +144,7 @@ fn first_byte(padded: bool, extended: bool, count: u8) -> u8 {
 impl<'a> PacketHeader<'a> {
     /// Whether the header can be written: the payload type is below 128, the CSRCs are whole words of four bytes and at most 15,
     /// and the extension, if present, fits (see [`HeaderExtension::fits`]). A header that was read fits.
+    #[must_use]
     pub fn fits(&self) -> bool {
         let extension_fits = match &self.extension {
             None => true,
@@ -151,11 +154,13 @@ impl<'a> PacketHeader<'a> {
     }
 
     /// How many CSRCs there are.
+    #[must_use]
     pub fn csrc_count(&self) -> usize {
         self.csrcs.len() / 4
     }
 
     /// The contributing source with this index, from 0; `None` if there are fewer.
+    #[must_use]
     pub fn csrc(&self, index: usize) -> Option<u32> {
         if index >= self.csrc_count() {
             return None;
@@ -170,6 +175,7 @@ impl<'a> PacketHeader<'a> {
     /// # Panics
     ///
     /// Unless `self.fits()`.
+    #[must_use]
     pub fn size(&self) -> usize {
         assert!(self.fits());
         let extension = match &self.extension {
@@ -226,6 +232,7 @@ pub struct RtpPacket<'a> {
 }
 
 /// Whether a packet that came on a port for both is one of RTCP: its second byte is 192 to 223 (RFC 5761, section 4).
+#[must_use]
 pub fn is_rtcp(bytes: &[u8]) -> bool {
     matches!(bytes, [_, 192..=223, ..])
 }
@@ -368,6 +375,7 @@ impl<'a> RtpPacket<'a> {
     /// and are read in fewer steps. `None`: the packet is not plain, or shorter than 12 bytes; [`RtpPacket::parse_parts`] reads it.
     /// Does not allocate.
     #[inline(always)]
+    #[must_use]
     pub fn parse_plain(bytes: &'a [u8]) -> Option<RtpPacket<'a>> {
         let [
             128,
@@ -402,6 +410,7 @@ impl<'a> RtpPacket<'a> {
     /// Reads a packet with a header extension, without CSRCs and padding, so its first byte is 144. Most packets of a call are such, and
     /// are read in fewer steps. `None`: the packet is another one, or malformed; [`RtpPacket::parse_parts`] reads it. Does not allocate.
     #[inline(always)]
+    #[must_use]
     pub fn parse_extended(bytes: &'a [u8]) -> Option<RtpPacket<'a>> {
         let [
             144,

@@ -13,11 +13,13 @@ pub struct RtpTimes {
 
 impl RtpTimes {
     /// No time so far.
+    #[must_use]
     pub fn new() -> RtpTimes {
         RtpTimes { last: None }
     }
 
     /// The last time, extended.
+    #[must_use]
     pub fn last(&self) -> Option<u64> {
         self.last
     }

@@ -10,6 +10,7 @@ use crate::wire::{AbsCaptureTime, ExtensionValues, VideoLayersAllocation, VideoT
 pub const VIDEO_TIMING_LEN: usize = 13;
 
 /// The value of video-timing: the flags, and six times of 16 bits.
+#[must_use]
 #[doc(hidden)]
 pub fn video_timing_bytes(timing: VideoTiming) -> [u8; VIDEO_TIMING_LEN] {
     let [a1, a0] = timing.encode_start.to_be_bytes();
@@ -22,6 +23,7 @@ pub fn video_timing_bytes(timing: VideoTiming) -> [u8; VIDEO_TIMING_LEN] {
 }
 
 /// The video-timing that these bytes are, or `None` for another number of them.
+#[must_use]
 #[doc(hidden)]
 pub fn video_timing_of(bytes: &[u8]) -> Option<VideoTiming> {
     let [flags, a1, a0, b1, b0, c1, c0, d1, d0, e1, e0, f1, f0] = *bytes else {
@@ -39,12 +41,14 @@ pub fn video_timing_of(bytes: &[u8]) -> Option<VideoTiming> {
 }
 
 /// The level in dBov, 0 to -127, and whether there is speech, of the byte of RFC 6464, section 3.
+#[must_use]
 #[doc(hidden)]
 pub fn audio_level_of(byte: u8) -> (i8, bool) {
     (-((byte % 128) as i8), byte >= 128)
 }
 
 /// The byte of RFC 6464, or `None` for a level above 0 or below -127 dBov.
+#[must_use]
 #[doc(hidden)]
 pub fn audio_level_byte(level: i8, voice: bool) -> Option<u8> {
     if !(-127..=0).contains(&level) {
@@ -66,6 +70,7 @@ fn number_of(bytes: &[u8]) -> u64 {
 }
 
 /// The abs-capture-time of 8 bytes, or of 16 with the offset of the clock; `None` for another number of them.
+#[must_use]
 #[doc(hidden)]
 pub fn abs_capture_time_of(bytes: &[u8]) -> Option<AbsCaptureTime> {
     if bytes.len() == 8 {
@@ -87,6 +92,7 @@ pub fn abs_capture_time_of(bytes: &[u8]) -> Option<AbsCaptureTime> {
 /// The ids that signalling gave to header extensions (RFC 8285, section 5); `None` for one that was not agreed on. The
 /// one-byte form has ids 1 to 14, the two-byte form 1 to 255.
 #[derive(Clone, Copy, Debug, Default, PartialEq, Eq)]
+#[cfg_attr(not(feature = "exhaustive"), non_exhaustive)]
 pub struct ExtensionIds {
     /// abs-capture-time: 8 bytes, or 16 with the offset of the clock.
     pub abs_capture_time: Option<u8>,
@@ -105,6 +111,7 @@ pub struct ExtensionIds {
 impl ExtensionIds {
     /// The values in the extension of a packet: for each, the first element with its id. A value whose length is not that of its
     /// format is absent. Reads the elements once, and does not allocate.
+    #[must_use]
     pub fn values(&self, extension: &Option<HeaderExtension<'_>>) -> ExtensionValues {
         let Some(extension) = extension else {
             return ExtensionValues::default();
@@ -119,6 +126,7 @@ impl ExtensionIds {
     /// another value. Most packets have none of those, and copying the room for them takes longer than reading the elements. Reads the
     /// elements once, and does not allocate.
     #[inline(always)]
+    #[must_use]
     pub fn small_values(&self, extension: &Option<HeaderExtension<'_>>) -> Option<SmallValues> {
         let Some(extension) = extension else {
             return Some(SmallValues::default());
@@ -272,6 +280,7 @@ fn bytes_for<'a>(id: Option<u8>, extension: &Option<HeaderExtension<'a>>) -> Opt
 
 /// Returns the value of the first element with this id in the extension of a packet. `None`: there is no such element. Costs a step
 /// for each element, and does not allocate.
+#[must_use]
 #[doc(hidden)]
 pub fn extension_value<'a>(id: u8, extension: &Option<HeaderExtension<'a>>) -> Option<&'a [u8]> {
     bytes_for(Some(id), extension)

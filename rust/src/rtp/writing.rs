@@ -162,6 +162,7 @@ fn are_ids(ids: &[Option<u8>]) -> bool {
 
 impl ExtensionIds {
     /// Whether each id can be written, and no two are the same: each is 1 or more.
+    #[must_use]
     pub fn fit(&self) -> bool {
         are_ids(&[
             self.abs_capture_time,

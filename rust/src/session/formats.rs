@@ -31,6 +31,7 @@ const MAX_UNIT: usize = 1_048_576;
 
 /// A payload format of a port, as `a=rtpmap` and `a=fmtp` of a session description name it.
 #[derive(Clone, Copy, Debug, PartialEq, Eq)]
+#[cfg_attr(not(feature = "exhaustive"), non_exhaustive)]
 pub struct Format {
     /// The payload type, 0 to 127.
     pub payload_type: u8,
@@ -74,7 +75,8 @@ pub struct SsrcPair {
 }
 
 /// Who requests missing packets and keyframes and sends receiver reports, and when.
-#[derive(Clone, Debug)]
+#[derive(Clone, Debug, PartialEq, Eq)]
+#[cfg_attr(not(feature = "exhaustive"), non_exhaustive)]
 pub struct FeedbackSettings {
     /// The SSRC of the session as a sender of RTCP.
     pub ssrc: u32,
@@ -123,7 +125,8 @@ pub struct FeedbackSettings {
 }
 
 /// The settings of a session.
-#[derive(Clone, Debug)]
+#[derive(Clone, Debug, PartialEq, Eq)]
+#[cfg_attr(not(feature = "exhaustive"), non_exhaustive)]
 pub struct SessionSettings {
     /// The payload formats. No two of them have a payload type in common ([`SessionSettings::check`]).
     pub formats: Vec<Format>,
@@ -213,6 +216,7 @@ impl FeedbackSettings {
     /// requests in packets of reduced size, the defaults of [`NackSettings`], and at most one request for a keyframe in 100 ms.
     /// Waiting follows the round trip, up to 1,500 ms. Nothing is requested 2 s after the latest datagram. A receiver report of at
     /// most 1,200 bytes is sent each second, with extended reports. Does not allocate.
+    #[must_use]
     pub fn live(ssrc: u32, cname: Vec<u8>) -> FeedbackSettings {
         FeedbackSettings {
             ssrc,
@@ -234,6 +238,7 @@ impl SessionSettings {
     /// frames of video for at most 200 ms, and formats that wait by late packets within [`AdaptiveWaitSettings::live`]. A session has at most 64 streams of 4,096 packets, and a unit at most
     /// 1,048,576 bytes. A stream is announced with its second datagram, ends after 30 s without a datagram, and takes packets
     /// for 200 ms after its BYE. Nothing is requested. Does not allocate.
+    #[must_use]
     pub fn live() -> SessionSettings {
         SessionSettings {
             formats: Vec::new(),
@@ -321,6 +326,7 @@ impl SessionSettings {
 
 impl Format {
     /// Returns a format without RED, retransmissions and requests. Waiting follows the round trip, if the session requests.
+    #[must_use]
     pub fn new(payload_type: u8, spec: CodecSpec) -> Format {
         Format {
             payload_type,

@@ -15,6 +15,7 @@ const LONGEST_STREAM_NAME: usize = 32;
 /// 1 to 255 in the two-byte form. `None`, which is the default: the extension was not agreed on. No element has the id 0, and two
 /// equal ids read the same element.
 #[derive(Clone, Copy, Debug, Default, PartialEq, Eq)]
+#[cfg_attr(not(feature = "exhaustive"), non_exhaustive)]
 pub struct StreamNameIds {
     /// `urn:ietf:params:rtp-hdrext:sdes:mid` (RFC 9143, section 15).
     pub mid: Option<u8>,
@@ -54,6 +55,7 @@ impl Eq for StreamName {}
 
 impl StreamName {
     /// Returns the name that these bytes are. `None`: there is no byte, or there are more than 32.
+    #[must_use]
     pub fn new(bytes: &[u8]) -> Option<Self> {
         if bytes.is_empty() || bytes.len() > LONGEST_STREAM_NAME {
             return None;
@@ -67,6 +69,7 @@ impl StreamName {
     }
 
     /// Returns the bytes of the name. They can be any, so check them before you take them for text.
+    #[must_use]
     pub fn as_bytes(&self) -> &[u8] {
         &self.padded[..usize::from(self.len)]
     }

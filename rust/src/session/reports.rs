@@ -30,6 +30,7 @@ impl SenderClock {
     /// stream's format.
     ///
     /// [`Event::Unit`]: crate::session::events::Event::Unit
+    #[must_use]
     pub fn ntp_at(self, rtp_time: u64, clock_rate: Frequency) -> u64 {
         let time = (rtp_time % (1 << 32)) as u32;
         let after = time.wrapping_sub(self.rtp_time);

@@ -227,6 +227,7 @@ pub(crate) fn requests_due(feedback: &Option<Feedback>) -> Option<u64> {
 
 /// Returns whether nothing is requested, and nothing is to be requested.
 #[inline(always)]
+#[must_use]
 pub fn are_idle(feedback: &Option<Feedback>, receiver: &Receiver) -> bool {
     match feedback {
         Some(feedback) => feedback.is_idle(receiver),

@@ -213,6 +213,7 @@ impl Session {
     /// If a poll returns `None` and no packet left a stream in it, no poll before [`Session::next_deadline`] has an event, until
     /// the next call of another kind. The one exception is a request for which memory runs out. A poll without an event in which
     /// packets left has skipped frames or dropped units: the next poll can have an event at any time.
+    #[must_use]
     pub fn poll(&mut self, now: Ticks) -> Option<Event> {
         let mut unit = PoppedUnit::new();
         match self.poll_into(now, &mut unit) {
@@ -227,6 +228,7 @@ impl Session {
     ///
     /// `unit` has the unit of an [`Event::Unit`] without an error, or of an [`Event::TooLarge`]. After any other answer its
     /// contents are unspecified.
+    #[must_use]
     pub fn poll_into(&mut self, now: Ticks, unit: &mut PoppedUnit) -> Option<Event<()>> {
         match self.telephone.take() {
             Some(event) => Some(event),
@@ -275,6 +277,7 @@ impl Session {
     ///
     /// Call it once polls have no event: then its cost does not grow with the streams, unless one of them leaves. Otherwise, and for
     /// up to 16 streams, it is one step for each stream.
+    #[must_use]
     pub fn next_deadline(&self) -> Option<Ticks> {
         if !self.telephone.is_empty() {
             return Some(Ticks(0));
@@ -364,6 +367,7 @@ impl Session {
     ///
     /// [`Receiver::report`]: crate::stream::receiver::Receiver::report
     /// [`StreamInfo::sender_clock`]: crate::session::stream::StreamInfo::sender_clock
+    #[must_use]
     pub fn report(&mut self, now: Ticks, ssrc: u32, payload_type: u8) -> Option<ReportBlock> {
         self.streams
             .report(now, self.settings.tick_rate, (ssrc, payload_type))
@@ -375,6 +379,7 @@ impl Session {
     ///
     /// [`FeedbackSettings::report_interval`]: crate::session::formats::FeedbackSettings::report_interval
     /// [`StreamInfo::round_trip`]: crate::session::stream::StreamInfo::round_trip
+    #[must_use]
     pub fn peek_report(&self, now: Ticks, ssrc: u32, payload_type: u8) -> Option<ReportBlock> {
         match self.streams.place_of(ssrc, payload_type) {
             Some(place) => self.streams.list[place].peek_report(now, self.settings.tick_rate),
@@ -386,6 +391,7 @@ impl Session {
     /// stream, or no report arrived since it began. See [`SenderClock::ntp_at`].
     ///
     /// [`SenderClock::ntp_at`]: crate::session::reports::SenderClock::ntp_at
+    #[must_use]
     pub fn sender_clock(&self, ssrc: u32, payload_type: u8) -> Option<SenderClock> {
         match self.streams.place_of(ssrc, payload_type) {
             Some(place) => {
@@ -405,6 +411,7 @@ impl Session {
     /// names of the earlier stream, which is kept for `bye_wait` of the settings at least. Allocates nothing.
     ///
     /// [`SessionSettings::name_ids`]: crate::session::formats::SessionSettings::name_ids
+    #[must_use]
     pub fn names_of(&self, ssrc: u32, payload_type: u8) -> Option<StreamNames> {
         match self.streams.place_of(ssrc, payload_type) {
             Some(place) => {
@@ -422,6 +429,7 @@ impl Session {
     /// Ask when the stream begins, and end the former one if it is not to wait for its timeout ([`Session::end`]). A sender that sends
     /// several streams under one MID without RIDs at once gets the same answer. The cost is one step for each stream. Allocates
     /// nothing.
+    #[must_use]
     pub fn former_ssrc(&self, ssrc: u32, payload_type: u8) -> Option<u32> {
         match self.names_of(ssrc, payload_type) {
             Some(names) => former(&self.streams.list, ssrc, names),
@@ -455,11 +463,13 @@ impl Session {
     }
 
     /// Returns the number of streams, announced or not: at most `max_streams` of the settings.
+    #[must_use]
     pub fn stream_count(&self) -> usize {
         self.streams.list.len()
     }
 
     /// Describes the stream at a place, in the order in which the streams began.
+    #[must_use]
     pub fn stream_at(&self, place: usize) -> Option<StreamInfo> {
         match self.streams.list.get(place) {
             Some(stream) => Some(stream.info()),
@@ -469,6 +479,7 @@ impl Session {
 
     /// Describes the stream that the session removed last, as it was then. At [`Event::Ended`] that is the stream of the event: its last
     /// counts. A stream in probation that a new stream replaced is described too, without an event.
+    #[must_use]
     pub fn last_stream(&self) -> Option<StreamInfo> {
         self.streams.last
     }
@@ -478,6 +489,7 @@ impl Session {
     ///
     /// [`Receiver::missing`]: crate::stream::receiver::Receiver::missing
     /// [`Receiver::wants_keyframe`]: crate::stream::receiver::Receiver::wants_keyframe
+    #[must_use]
     pub fn receiver_at(&self, place: usize) -> Option<&Receiver> {
         match self.streams.list.get(place) {
             Some(stream) => Some(stream.receiver.inner()),
@@ -490,6 +502,7 @@ impl Session {
     ///
     /// [`Receiver::unit_is_decodable`]: crate::stream::receiver::Receiver::unit_is_decodable
     /// [`Receiver::unit_is_keyframe`]: crate::stream::receiver::Receiver::unit_is_keyframe
+    #[must_use]
     pub fn receiver_of(&self, ssrc: u32, payload_type: u8) -> Option<&Receiver> {
         match self.streams.place_of(ssrc, payload_type) {
             Some(place) => self.receiver_at(place),
@@ -498,6 +511,7 @@ impl Session {
     }
 
     /// Returns the counters of datagrams by result.
+    #[must_use]
     pub fn counts(&self) -> SessionCounts {
         let counts = self.counts;
         SessionCounts {

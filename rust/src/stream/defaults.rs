@@ -34,6 +34,7 @@ impl ReceiverSettings {
     /// Returns settings for a live stream of this codec without retransmission: for VP8, VP9 and AV1 those of
     /// [`ReceiverSettings::live_video`], and else those of [`ReceiverSettings::live_audio`]. `payload_type` is 0 to 127, and `clock_rate` is the
     /// rate of the RTP clock. Allocates nothing.
+    #[must_use]
     pub fn for_stream(payload_type: u8, codec: Codec, clock_rate: Frequency) -> ReceiverSettings {
         if is_video(codec) {
             ReceiverSettings::live_video(payload_type, clock_rate)
@@ -59,12 +60,14 @@ impl ReceiverSettings {
     /// Allocates nothing.
     ///
     /// [`Windows::for_rate`]: crate::stream::windows::Windows::for_rate
+    #[must_use]
     pub fn live_audio(payload_type: u8, clock_rate: Frequency) -> ReceiverSettings {
         ReceiverSettings::with_defaults(payload_type, clock_rate, WaitLimits::live(), AUDIO)
     }
 
     /// Returns settings for live audio with NACK (RFC 4585): a lost packet delays frames by at most 200 ms. The rest is as in
     /// [`ReceiverSettings::live_audio`].
+    #[must_use]
     pub fn live_audio_with_nack(payload_type: u8, clock_rate: Frequency) -> ReceiverSettings {
         ReceiverSettings::with_defaults(
             payload_type,
@@ -79,12 +82,14 @@ impl ReceiverSettings {
     /// The rest is as in [`ReceiverSettings::live_audio`].
     ///
     /// [`Windows::for_rate`]: crate::stream::windows::Windows::for_rate
+    #[must_use]
     pub fn live_video(payload_type: u8, clock_rate: Frequency) -> ReceiverSettings {
         ReceiverSettings::with_defaults(payload_type, clock_rate, WaitLimits::live(), VIDEO)
     }
 
     /// Returns settings for live video with NACK: a lost packet delays frames by at most 200 ms. The first frame waits for two
     /// more frames, or 200 ms. The rest is as in [`ReceiverSettings::live_video`].
+    #[must_use]
     pub fn live_video_with_nack(payload_type: u8, clock_rate: Frequency) -> ReceiverSettings {
         ReceiverSettings::with_defaults(
             payload_type,
@@ -99,6 +104,7 @@ impl ReceiverSettings {
     /// [`ReceiverSettings::live_audio`].
     ///
     /// [`Receiver::finish`]: crate::stream::receiver::Receiver::finish
+    #[must_use]
     pub fn file(payload_type: u8, clock_rate: Frequency) -> ReceiverSettings {
         ReceiverSettings::with_defaults(payload_type, clock_rate, WaitLimits::file(), VIDEO)
     }

@@ -17,6 +17,7 @@ pub struct ParsedDatagram<'a> {
 impl<'a> ParsedDatagram<'a> {
     /// Reads a datagram. Any bytes are accepted.
     #[inline(always)]
+    #[must_use]
     pub fn parse(bytes: &'a [u8]) -> ParsedDatagram<'a> {
         match ParsedDatagram::parse_plain(bytes) {
             Some(datagram) => datagram,
@@ -28,6 +29,7 @@ impl<'a> ParsedDatagram<'a> {
     /// [`ParsedDatagram::parse_parts`] reads it. A caller that passes each answer on by itself saves the copies of a value that comes
     /// from several places.
     #[inline(always)]
+    #[must_use]
     pub fn parse_plain(bytes: &'a [u8]) -> Option<ParsedDatagram<'a>> {
         match RtpPacket::parse_plain(bytes) {
             Some(packet) => Some(ParsedDatagram {
@@ -41,6 +43,7 @@ impl<'a> ParsedDatagram<'a> {
 
     /// Does the same for an RTP packet with a header extension, as [`RtpPacket::parse_extended`] does.
     #[inline(always)]
+    #[must_use]
     pub fn parse_extended(bytes: &'a [u8]) -> Option<ParsedDatagram<'a>> {
         match RtpPacket::parse_extended(bytes) {
             Some(packet) => Some(ParsedDatagram {
@@ -54,6 +57,7 @@ impl<'a> ParsedDatagram<'a> {
 
     /// Reads a datagram. For a caller that has tried [`ParsedDatagram::parse_plain`]: a plain packet takes longer here.
     #[inline(always)]
+    #[must_use]
     pub fn parse_parts(bytes: &'a [u8]) -> ParsedDatagram<'a> {
         ParsedDatagram {
             bytes,
@@ -64,12 +68,14 @@ impl<'a> ParsedDatagram<'a> {
 
     /// Returns the bytes of the datagram.
     #[inline(always)]
+    #[must_use]
     pub fn bytes(&self) -> &'a [u8] {
         self.bytes
     }
 
     /// Returns whether the datagram is of RTCP: its second byte is 192 to 223 (RFC 5761, section 4).
     #[inline(always)]
+    #[must_use]
     pub fn is_rtcp(&self) -> bool {
         self.is_rtcp
     }

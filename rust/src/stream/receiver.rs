@@ -52,7 +52,8 @@ pub struct RedSettings {
 }
 
 /// The settings of a receiver.
-#[derive(Clone, Debug)]
+#[derive(Clone, Debug, PartialEq, Eq)]
+#[cfg_attr(not(feature = "exhaustive"), non_exhaustive)]
 pub struct ReceiverSettings {
     /// The payload type of the stream, 0 to 127.
     pub payload_type: u8,
@@ -482,12 +483,14 @@ impl<B: Depacketizer> Receiver<B> {
     ///
     /// True for audio, and with [`FromKeyframe::Off`]. False for video before the first unit, and after a refused frame or a unit above
     /// `max_unit`.
+    #[must_use]
     pub fn unit_is_decodable(&self) -> bool {
         self.gates.is_decodable()
     }
 
     /// Returns whether the latest popped unit is a keyframe, by its frame header (RFC 6386, section 9.1; VP9 bitstream
     /// specification, section 6.2; AV1 bitstream specification, section 5.9). False for audio, and with [`FromKeyframe::Off`].
+    #[must_use]
     pub fn unit_is_keyframe(&self) -> bool {
         self.gates.is_keyframe()
     }
@@ -501,6 +504,7 @@ impl<B: Depacketizer> Receiver<B> {
     /// - You called [`Receiver::restart`].
     ///
     /// It is false for audio, and with [`FromKeyframe::Off`].
+    #[must_use]
     pub fn wants_keyframe(&self) -> bool {
         self.gates.wants_keyframe()
     }
@@ -508,11 +512,13 @@ impl<B: Depacketizer> Receiver<B> {
     /// Returns the RTP time of the latest released unit, in ticks of the RTP clock, without wrapping. The first unit has 2^32
     /// plus the 32 bits of its header. Each later unit has the time nearest to the previous unit's. The field `time` of a unit
     /// has 32 bits, as its packets have, since this time identifies the packets of one frame.
+    #[must_use]
     pub fn unit_time(&self) -> Option<u64> {
         self.times.last()
     }
 
     /// Returns the time from which a pop waits for nothing, even if no packet arrives. See [`JitterBuffer::next_deadline`].
+    #[must_use]
     pub fn next_deadline(&self) -> Option<Ticks> {
         self.packets.next_deadline()
     }
@@ -523,6 +529,7 @@ impl<B: Depacketizer> Receiver<B> {
     }
 
     /// Returns how long the receiver waits for missing packets.
+    #[must_use]
     pub fn wait_limits(&self) -> WaitLimits {
         self.packets.wait_limits()
     }
@@ -563,6 +570,7 @@ impl<B: Depacketizer> Receiver<B> {
 
     /// Returns the missing numbers in rising order, at most `most` of them: the numbers to request by NACK. Allocates nothing.
     /// See [`JitterBuffer::missing`].
+    #[must_use]
     pub fn missing(&self, most: usize) -> MissingNumbers<'_, B> {
         self.packets.missing(most)
     }
@@ -571,17 +579,20 @@ impl<B: Depacketizer> Receiver<B> {
     /// Recovered, retransmitted and suspect packets do not count. After a restart the report is about the new sender alone, from
     /// the packet on that confirmed it (RFC 3550, appendix A.1). Returns `None` if no packet was received. The next report starts
     /// its fraction here. Allocates nothing.
+    #[must_use]
     pub fn report(&mut self) -> Option<ReceptionReport> {
         self.statistics.report()
     }
 
     /// Returns the SSRC of the stream, if it is known.
+    #[must_use]
     pub fn ssrc(&self) -> Option<u32> {
         self.ssrc
     }
 
     /// Returns whether pops change nothing until a packet arrives. `false` says nothing. See [`JitterBuffer::is_idle`].
     #[inline(always)]
+    #[must_use]
     pub fn is_idle(&self) -> bool {
         self.packets.is_idle()
     }
@@ -592,6 +603,7 @@ impl<B: Depacketizer> Receiver<B> {
     }
 
     /// Returns the counters of all datagrams by outcome.
+    #[must_use]
     pub fn counters(&self) -> Counters {
         let undecided = self.choice.candidates.len() as u64;
         Counters {

@@ -8,6 +8,7 @@ use crate::wire::Ticks;
 
 impl<B> Receiver<B> {
     /// Returns what [`Receiver::report`] would return, and changes nothing. Allocates nothing.
+    #[must_use]
     pub fn peek_report(&self) -> Option<ReceptionReport> {
         let mut statistics = self.statistics;
         statistics.report()
@@ -16,6 +17,7 @@ impl<B> Receiver<B> {
     /// Returns how far the RTP time of a packet that arrives at `now` is from the sender's clock. This is the difference between the
     /// transit times (RFC 3550, appendix A.8) of the packet and of the latest packet that counts for reports, in ticks of the RTP
     /// clock, the shorter way round 32 bits. `None`: no packet counts so far.
+    #[must_use]
     pub fn transit_change(&self, now: Ticks, rtp_time: u32) -> Option<u32> {
         self.statistics.transit_change(now, rtp_time)
     }

@@ -45,6 +45,7 @@ pub struct ReceptionStatistics {
 impl ReceptionStatistics {
     /// Creates the statistics before the first packet. `tick_rate` is in ticks of your clock per second, `clock_rate` in ticks
     /// of the RTP clock per second.
+    #[must_use]
     pub fn over(
         numbers: SequenceNumbers,
         tick_rate: Frequency,
@@ -91,6 +92,7 @@ impl ReceptionStatistics {
     }
 
     /// Returns the fields of a report now, or `None` if no packet arrived. The next report starts its fraction here.
+    #[must_use]
     pub fn report(&mut self) -> Option<ReceptionReport> {
         let greatest = self.numbers.greatest()?;
         let expected = expected_of(greatest, self.first);

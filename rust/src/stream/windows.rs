@@ -29,6 +29,7 @@ impl Windows {
     /// A burst of packets that is late by more than the backward window is reported as a restart. So use the highest rate of
     /// the stream, not its average. A receiver accepts all windows that this call returns. A restart more than 5,120 numbers
     /// behind is found later, when the new numbers are less far behind.
+    #[must_use]
     pub fn for_rate(packets_per_second: u32) -> Windows {
         let rate = packets_per_second.min(GREATEST_RATE) as u16;
         Windows {

@@ -43,6 +43,7 @@ pub struct FieldReader<'a> {
 impl<'a> FieldReader<'a> {
     /// A reader at the first bit of `bytes`.
     #[inline(always)]
+    #[must_use]
     pub fn new(bytes: &'a [u8]) -> FieldReader<'a> {
         FieldReader {
             window: 0,

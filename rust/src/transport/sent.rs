@@ -96,6 +96,7 @@ impl SentPackets {
     }
 
     /// Returns when the packet with this number was sent. `None`: it is not among the remembered packets.
+    #[must_use]
     pub fn sent_at(&self, number: u16) -> Option<Ticks> {
         let back = usize::from(self.next.wrapping_sub(1).wrapping_sub(number));
         if back >= self.times.len() {

@@ -166,6 +166,7 @@ impl Vp8Descriptor {
     }
 
     /// The picture id, of 7 or 15 bits, if present.
+    #[must_use]
     pub fn picture_id(&self) -> Option<u16> {
         match self.picture_id {
             Some(id) => Some(id.value()),
@@ -175,6 +176,7 @@ impl Vp8Descriptor {
 
     /// The width of the picture id in bits: 7, or 15 if its M bit is set (RFC 7741, section 4.2); `None` without a picture id. A
     /// patch keeps this width.
+    #[must_use]
     pub fn picture_id_bits(&self) -> Option<u8> {
         match self.picture_id {
             Some(PictureId::Short(_)) => Some(7),
@@ -184,11 +186,13 @@ impl Vp8Descriptor {
     }
 
     /// TL0PICIDX, if present.
+    #[must_use]
     pub fn tl0_pic_idx(&self) -> Option<u8> {
         self.tl0_pic_idx
     }
 
     /// KEYIDX, 0 to 31, if present.
+    #[must_use]
     pub fn key_idx(&self) -> Option<u8> {
         match (self.flags, self.tid_octet) {
             (Some(flags), Some(octet)) if flags & KEY_IDX_PRESENT != 0 => Some(octet % KEY_INDEXES),
@@ -205,6 +209,7 @@ impl Vp8Descriptor {
     }
 
     /// Whether a keyframe starts in the payload. Reads the first byte of `payload`, and the byte after a descriptor of this length.
+    #[must_use]
     pub fn starts_keyframe(&self, payload: &[u8]) -> bool {
         let Some(&first) = payload.first() else {
             return false;
@@ -213,6 +218,7 @@ impl Vp8Descriptor {
     }
 
     /// Starts a patch of the descriptor.
+    #[must_use]
     pub fn patch(&self) -> Vp8PatchBuilder {
         Vp8PatchBuilder::new(*self)
     }

@@ -36,6 +36,7 @@ fn frame_byte(first: u8, bytes: &[u8]) -> Option<u8> {
 
 /// Whether a keyframe starts in the payload (RFC 7741, section 4.2): S is set, the partition is the first, and the frame's first
 /// byte is present with P clear. False for a payload that is cut off. TL0PICIDX without a temporal layer is accepted here.
+#[must_use]
 pub fn detect_vp8_keyframe(payload: &[u8]) -> bool {
     let Some((&first, bytes)) = payload.split_first() else {
         return false;

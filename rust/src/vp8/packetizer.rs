@@ -24,6 +24,7 @@ impl Vp8Packetizer {
     /// # Panics
     ///
     /// Unless `id < 1 << 15`.
+    #[must_use]
     pub fn with_picture_id(id: u16) -> Self {
         assert!(id < 1 << 15);
         Vp8Packetizer {

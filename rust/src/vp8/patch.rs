@@ -139,6 +139,7 @@ impl Vp8PatchBuilder {
     }
 
     /// Requests this picture id, in the width of the existing one.
+    #[must_use]
     pub fn picture_id(self, picture_id: u16) -> Self {
         Vp8PatchBuilder {
             picture_id: Some(picture_id),
@@ -147,6 +148,7 @@ impl Vp8PatchBuilder {
     }
 
     /// Asks for this TL0PICIDX.
+    #[must_use]
     pub fn tl0_pic_idx(self, tl0_pic_idx: u8) -> Self {
         Vp8PatchBuilder {
             tl0_pic_idx: Some(tl0_pic_idx),
@@ -155,6 +157,7 @@ impl Vp8PatchBuilder {
     }
 
     /// Asks for this KEYIDX. TID and Y stay.
+    #[must_use]
     pub fn key_idx(self, key_idx: u8) -> Self {
         Vp8PatchBuilder {
             key_idx: Some(key_idx),
@@ -228,6 +231,7 @@ fn write(place: Option<(usize, u8)>, dst: &mut [u8]) {
 
 impl Vp8Patch {
     /// Whether every patched place is below `len`.
+    #[must_use]
     pub fn reaches(&self, len: usize) -> bool {
         is_below(self.picture_id, len)
             && is_below(self.picture_id_low, len)

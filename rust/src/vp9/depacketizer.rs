@@ -74,6 +74,7 @@ pub struct Vp9Depacketizer {
 
 impl Vp9Depacketizer {
     /// A depacketizer that has read nothing.
+    #[must_use]
     pub fn new() -> Self {
         Vp9Depacketizer {
             i: false,

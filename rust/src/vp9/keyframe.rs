@@ -7,6 +7,7 @@ use crate::vp9::descriptor::INTER_PICTURE_PREDICTED;
 /// Whether a frame, without a descriptor, is a keyframe: its marker is right, it does not show an earlier frame again, and its
 /// frame type is that of keyframes (VP9 bitstream specification, section 6.2). Only frames of profile 3, with both profile bits
 /// set, have a reserved bit before these two bits. So a shown 10-bit keyframe of profile 2, which begins with 0x92, is a keyframe.
+#[must_use]
 pub fn detect_vp9_keyframe_bitstream(payload: &[u8]) -> bool {
     let Some(&byte) = payload.first() else {
         return false;
@@ -22,6 +23,7 @@ pub fn detect_vp9_keyframe_bitstream(payload: &[u8]) -> bool {
 }
 
 /// Whether a payload is of a frame that refers to no other (RFC 9628, section 4.2): it is not empty, and P is clear.
+#[must_use]
 pub fn detect_vp9_keyframe(payload: &[u8]) -> bool {
     match payload.first() {
         Some(flags) => *flags & INTER_PICTURE_PREDICTED == 0,

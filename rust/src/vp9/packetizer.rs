@@ -138,6 +138,7 @@ impl Vp9Packetizer {
     /// # Panics
     ///
     /// Unless `first_id < 1 << 15`.
+    #[must_use]
     pub fn with_mode(mode: Vp9PacketizerMode, first_id: u16) -> Self {
         assert!(first_id < 1 << 15);
         Vp9Packetizer {

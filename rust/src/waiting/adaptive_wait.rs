@@ -9,6 +9,7 @@ use crate::wire::Ticks;
 /// Within which bounds an [`AdaptiveWait`] moves. Times are in ticks of your clock; the defaults are for milliseconds. Any values
 /// may be given.
 #[derive(Clone, Copy, Debug, PartialEq, Eq)]
+#[cfg_attr(not(feature = "exhaustive"), non_exhaustive)]
 pub struct AdaptiveWaitSettings {
     /// The lowest limit. 20 by default.
     pub shortest: u64,
@@ -23,7 +24,8 @@ pub struct AdaptiveWaitSettings {
 
 impl AdaptiveWaitSettings {
     /// Returns the defaults, for a clock in milliseconds.
-    pub fn live() -> AdaptiveWaitSettings {
+    #[must_use]
+    pub const fn live() -> AdaptiveWaitSettings {
         AdaptiveWaitSettings {
             shortest: 20,
             longest: 400,
@@ -54,6 +56,7 @@ pub struct AdaptiveWait {
 
 impl AdaptiveWait {
     /// Returns the limit of a new stream: no packet is missing.
+    #[must_use]
     pub fn new(settings: AdaptiveWaitSettings) -> AdaptiveWait {
         AdaptiveWait {
             settings,
@@ -85,6 +88,7 @@ impl AdaptiveWait {
     }
 
     /// Returns the limit in ticks: 5/4 of the greatest of the latest 32 ages, within the bounds of the settings.
+    #[must_use]
     pub fn limit(&self) -> u64 {
         let settings = self.settings;
         let least = if self.ages.are_enough() {

@@ -35,6 +35,7 @@ impl ExtensionValues {
     /// # Panics
     ///
     /// Unless `place < count`.
+    #[must_use]
     pub fn for_packet(&self, place: usize, count: usize) -> ExtensionValues {
         assert!(place < count);
         let first = place == 0;
@@ -97,6 +98,7 @@ impl Eq for VideoLayersAllocation {}
 
 impl VideoLayersAllocation {
     /// The allocation that these bytes are, or `None` for more than 255 of them.
+    #[must_use]
     pub fn new(bytes: &[u8]) -> Option<Self> {
         let len = u8::try_from(bytes.len()).ok()?;
         let mut padded = [0; 255];
@@ -105,6 +107,7 @@ impl VideoLayersAllocation {
     }
 
     /// The bytes that it was made of.
+    #[must_use]
     pub fn bytes(&self) -> &[u8] {
         &self.padded[..usize::from(self.len)]
     }

@@ -22,6 +22,7 @@ pub enum MediaKind {
 
 impl MediaKind {
     /// The media kind of this media type; `None` if it is neither audio nor video.
+    #[must_use]
     pub fn from_media_type(media_type: MediaType) -> Option<MediaKind> {
         match media_type {
             MediaType::Audio => Some(MediaKind::Audio),
@@ -31,11 +32,14 @@ impl MediaKind {
     }
 
     /// Whether it is audio.
+    #[must_use]
     pub fn is_audio(&self) -> bool {
         *self == MediaKind::Audio
     }
 
     /// Whether it is video.
+    #[must_use]
+    #[doc(hidden)]
     pub fn is_video(&self) -> bool {
         *self == MediaKind::Video
     }

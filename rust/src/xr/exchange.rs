@@ -42,6 +42,7 @@ pub struct PeerTime {
 
 /// Returns the reference time of a moment: its NTP timestamp ([`ntp_time`]), or 1/65,536 s more if the middle 32 bits of that are 0. A
 /// DLRR with 0 in place of these bits would say that no reference time came.
+#[must_use]
 pub fn reference_time(now: Ticks, tick_rate: Frequency) -> u64 {
     let time = ntp_time(now, tick_rate);
     if middle_bits(time) == 0 {
@@ -103,6 +104,7 @@ fn later(later: Option<PeerTime>, earlier: Option<PeerTime>) -> Option<PeerTime>
 
 impl TimeExchange {
     /// Returns what a peer knows before anything came. Does not allocate.
+    #[must_use]
     pub fn new() -> TimeExchange {
         TimeExchange {
             round_trip: None,

@@ -91,6 +91,7 @@ impl<'a> ExtendedReport<'a> {
     /// is a block of type 4 and two words; blocks of other lengths are skipped.
     ///
     /// Walks over the blocks, up to the first one that the bytes end in.
+    #[must_use]
     pub fn reference_time(&self) -> Option<u64> {
         reference_time_in(self.blocks)
     }
@@ -99,6 +100,7 @@ impl<'a> ExtendedReport<'a> {
     /// contents are whole sub-blocks of 12 bytes; blocks of other lengths are skipped.
     ///
     /// Walks over the blocks, up to the first one that the bytes end in.
+    #[must_use]
     pub fn dlrr(&self, ssrc: u32) -> Option<Dlrr> {
         dlrr_in(ssrc, self.blocks)
     }

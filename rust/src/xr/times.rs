@@ -6,6 +6,7 @@ use crate::wire::{Frequency, Ticks};
 
 /// Returns the NTP timestamp of a moment, in units of 1/2^32 seconds since the zero of its clock, rounded down; of a number of more than
 /// 64 bits, the low 64. `tick_rate` is the rate of the clock.
+#[must_use]
 pub fn ntp_time(now: Ticks, tick_rate: Frequency) -> u64 {
     let rate = u64::from(tick_rate.get());
     let seconds = now.0 / rate % 4_294_967_296;
@@ -14,6 +15,7 @@ pub fn ntp_time(now: Ticks, tick_rate: Frequency) -> u64 {
 }
 
 /// Returns the middle 32 bits of an NTP timestamp, in units of 1/65,536 seconds.
+#[must_use]
 pub fn middle_bits(ntp_time: u64) -> u32 {
     (ntp_time / 65_536 % 4_294_967_296) as u32
 }
@@ -23,6 +25,7 @@ pub fn middle_bits(ntp_time: u64) -> u32 {
 ///
 /// `None` if `last_rr` is 0, since the sender had no reference time; and if the result is above 60 seconds. Down to 100 ms below 0 it is
 /// 0, as the clocks have a grain; further below it is `None`.
+#[must_use]
 pub fn round_trip(now: u32, last_rr: u32, delay: u32) -> Option<u32> {
     if last_rr == 0 {
         return None;
@@ -38,6 +41,7 @@ pub fn round_trip(now: u32, last_rr: u32, delay: u32) -> Option<u32> {
 }
 
 /// Returns a round trip of so many units of 1/65,536 seconds in ticks, rounded to the nearest. `tick_rate` is the rate of the clock.
+#[must_use]
 pub fn ticks_of(round_trip: u32, tick_rate: Frequency) -> u64 {
     (u64::from(round_trip) * u64::from(tick_rate.get()) + 32_768) / 65_536
 }

@@ -26,26 +26,29 @@ fn receiver_of() -> Result<Receiver<NoBox>, Fail> {
     if let CodecDepacketizer::AmrWb(d) = &mut depack {
         d.octet_align = true;
     }
-    let settings = ReceiverSettings {
-        payload_type: 96,
-        no_media: Vec::new(),
-        ssrc: Some(7),
-        red: None,
-        retransmission: None,
-        extension_ids: ExtensionIds::default(),
-        clock_rate: Frequency::make(16_000).ok_or("a rate")?,
-        tick_rate: Frequency::make(1_000).ok_or("a rate")?,
-        wait_limits: WaitLimits {
-            hold_back: Some(30),
-            start: 0,
-            max_wait: Some(100),
-        },
-        limit: 4_096,
-        forward: 3_000,
-        backward: 1_000,
-        from_keyframe: FromKeyframe::Mark,
-        max_unit: None,
-        dependency_descriptor: None,
+    let settings = {
+        let mut settings =
+            ReceiverSettings::live_audio(96, Frequency::make(16_000).ok_or("a rate")?);
+        settings.no_media = Vec::new();
+        settings.ssrc = Some(7);
+        settings.red = None;
+        settings.retransmission = None;
+        settings.extension_ids = ExtensionIds::default();
+        settings.tick_rate = Frequency::make(1_000).ok_or("a rate")?;
+        settings.wait_limits = {
+            let mut limits = WaitLimits::live();
+            limits.hold_back = Some(30);
+            limits.start = 0;
+            limits.max_wait = Some(100);
+            limits
+        };
+        settings.limit = 4_096;
+        settings.forward = 3_000;
+        settings.backward = 1_000;
+        settings.from_keyframe = FromKeyframe::Mark;
+        settings.max_unit = None;
+        settings.dependency_descriptor = None;
+        settings
     };
     Ok(Receiver::new(depack, settings).map_err(|_| "settings out of range")?)
 }

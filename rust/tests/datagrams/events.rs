@@ -37,24 +37,30 @@ pub enum Event {
 }
 
 /// The wait limits of most test vectors.
-pub const WAITS: WaitLimits = WaitLimits {
-    hold_back: Some(1_000),
-    start: 0,
-    max_wait: Some(50),
+pub const WAITS: WaitLimits = {
+    let mut limits = WaitLimits::live();
+    limits.hold_back = Some(1_000);
+    limits.start = 0;
+    limits.max_wait = Some(50);
+    limits
 };
 
 /// The first frame waits for a second one.
-pub const STARTS_LATER: WaitLimits = WaitLimits {
-    hold_back: Some(1_000),
-    start: 1,
-    max_wait: Some(50),
+pub const STARTS_LATER: WaitLimits = {
+    let mut limits = WaitLimits::live();
+    limits.hold_back = Some(1_000);
+    limits.start = 1;
+    limits.max_wait = Some(50);
+    limits
 };
 
 /// A longer wait.
-pub const WAITS_LONGER: WaitLimits = WaitLimits {
-    hold_back: Some(1_000),
-    start: 0,
-    max_wait: Some(100),
+pub const WAITS_LONGER: WaitLimits = {
+    let mut limits = WaitLimits::live();
+    limits.hold_back = Some(1_000);
+    limits.start = 0;
+    limits.max_wait = Some(100);
+    limits
 };
 
 /// An RTP packet of 13 bytes: its payload type, number and SSRC, and a byte.
@@ -99,22 +105,22 @@ pub fn receiver_for(
 ) -> Result<Receiver<NoBox>, Fail> {
     let depack: CodecDepacketizer<NoBox> =
         CodecDepacketizer::from_codec(Codec::Opus).ok_or("no depacketizer")?;
-    let settings = ReceiverSettings {
-        payload_type: 96,
-        no_media: vec![101],
-        ssrc,
-        red: None,
-        retransmission: None,
-        extension_ids: ExtensionIds::default(),
-        clock_rate: Frequency::FORTY_EIGHT_KHZ,
-        tick_rate: Frequency::make(1_000).ok_or("a rate")?,
-        wait_limits,
-        limit,
-        forward: 3_000,
-        backward: 1_000,
-        from_keyframe: FromKeyframe::Mark,
-        max_unit: None,
-        dependency_descriptor: None,
+    let settings = {
+        let mut settings = ReceiverSettings::live_audio(96, Frequency::FORTY_EIGHT_KHZ);
+        settings.no_media = vec![101];
+        settings.ssrc = ssrc;
+        settings.red = None;
+        settings.retransmission = None;
+        settings.extension_ids = ExtensionIds::default();
+        settings.tick_rate = Frequency::make(1_000).ok_or("a rate")?;
+        settings.wait_limits = wait_limits;
+        settings.limit = limit;
+        settings.forward = 3_000;
+        settings.backward = 1_000;
+        settings.from_keyframe = FromKeyframe::Mark;
+        settings.max_unit = None;
+        settings.dependency_descriptor = None;
+        settings
     };
     Ok(Receiver::new(depack, settings).map_err(|_| "settings out of range")?)
 }

@@ -17,9 +17,10 @@ fn settings() -> SenderSettings {
         clock_rate: Frequency::FORTY_EIGHT_KHZ,
         mtu: 2,
         tailroom: 16,
-        extension_ids: ExtensionIds {
-            audio_level: Some(6),
-            ..ExtensionIds::default()
+        extension_ids: {
+            let mut ids = ExtensionIds::default();
+            ids.audio_level = Some(6);
+            ids
         },
     }
 }

@@ -4,18 +4,20 @@ use codec_payload::rtp::packet::HeaderExtension;
 use codec_payload::rtp::values::ExtensionIds;
 use codec_payload::wire::ExtensionValues;
 
-const IDS: ExtensionIds = ExtensionIds {
-    abs_capture_time: Some(1),
-    video_orientation: Some(2),
-    video_content_type: Some(3),
-    video_timing: Some(4),
-    layers_allocation: Some(5),
-    audio_level: Some(6),
-};
+fn ids() -> ExtensionIds {
+    let mut ids = ExtensionIds::default();
+    ids.abs_capture_time = Some(1);
+    ids.video_orientation = Some(2);
+    ids.video_content_type = Some(3);
+    ids.video_timing = Some(4);
+    ids.layers_allocation = Some(5);
+    ids.audio_level = Some(6);
+    ids
+}
 
 /// The values in the words of an extension.
 fn values_of(profile: u16, bytes: &[u8]) -> ExtensionValues {
-    IDS.values(&Some(HeaderExtension { profile, bytes }))
+    ids().values(&Some(HeaderExtension { profile, bytes }))
 }
 
 /// For each extension an element: the capture time of 8 bytes, orientation 2, content type 1, the times 1 to 6, an allocation of
@@ -63,5 +65,5 @@ fn lengths_of_other_formats() {
         values_of(0xbedf, &[0x20, 7, 0x20, 8]),
         ExtensionValues::default()
     );
-    assert_eq!(IDS.values(&None), ExtensionValues::default());
+    assert_eq!(ids().values(&None), ExtensionValues::default());
 }

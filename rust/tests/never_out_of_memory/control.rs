@@ -243,10 +243,11 @@ fn keyframes(size: usize) {
 
 /// The settings of a schedule, with capacities below, at and above what is missing.
 fn nack_settings(capacity: usize) -> NackSettings {
-    NackSettings {
-        capacity,
-        tries: u32::MAX,
-        ..NackSettings::live()
+    {
+        let mut settings = NackSettings::live();
+        settings.capacity = capacity;
+        settings.tries = u32::MAX;
+        settings
     }
 }
 
@@ -317,11 +318,12 @@ fn numbered(number: u16, size: usize) -> Vec<u8> {
 fn reporter(size: usize) {
     let source = FeedbackSource::new(1, vec![b'n'; size.min(255)], true).expect("a short name");
     for most in [0, 1_100, usize::MAX] {
-        let settings = TransportSettings {
-            interval: 0,
-            size: most,
-            window: size.clamp(1, 32_768),
-            ..TransportSettings::live(5)
+        let settings = {
+            let mut settings = TransportSettings::live(5);
+            settings.interval = 0;
+            settings.size = most;
+            settings.window = size.clamp(1, 32_768);
+            settings
         };
         let mut reporter = TransportReporter::new(settings).expect("settings in range");
         for number in 0..size.min(5_000) {
@@ -363,13 +365,12 @@ fn transport(size: usize) {
 }
 
 fn paced(size: usize) {
-    let mut pacer = Pacer::new(
-        1,
-        PacerSettings {
-            burst: 0,
-            bound: u64::MAX,
-        },
-    );
+    let mut pacer = Pacer::new(1, {
+        let mut settings = PacerSettings::live();
+        settings.burst = 0;
+        settings.bound = u64::MAX;
+        settings
+    });
     for id in 0..size as u64 {
         let kind = [
             PacedKind::Audio,
@@ -527,13 +528,15 @@ fn rtp_packets(size: usize) {
 
 /// All values at once, the layers with as many bytes as they may have, and numbers in datagrams of any size.
 fn extensions(size: usize) {
-    let ids = ExtensionIds {
-        abs_capture_time: Some(1),
-        video_orientation: Some(2),
-        video_content_type: Some(3),
-        video_timing: Some(4),
-        layers_allocation: Some(255),
-        audio_level: Some(6),
+    let ids = {
+        let mut ids = ExtensionIds::default();
+        ids.abs_capture_time = Some(1);
+        ids.video_orientation = Some(2);
+        ids.video_content_type = Some(3);
+        ids.video_timing = Some(4);
+        ids.layers_allocation = Some(255);
+        ids.audio_level = Some(6);
+        ids
     };
     let values = ExtensionValues {
         abs_capture_time: Some(AbsCaptureTime {

@@ -441,10 +441,12 @@ fn header(number: u16) -> RtpHeader {
 /// A jitter buffer of Opus for as many packets.
 fn jitters(size: usize) -> JitterBuffer {
     let numbers = codec_payload::jitter::SequenceNumbers::new();
-    let limits = WaitLimits {
-        hold_back: Some(usize::MAX),
-        start: usize::MAX,
-        max_wait: None,
+    let limits = {
+        let mut limits = WaitLimits::live();
+        limits.hold_back = Some(usize::MAX);
+        limits.start = usize::MAX;
+        limits.max_wait = None;
+        limits
     };
     JitterBuffer::over(numbers, empty(size), Frequency::FORTY_EIGHT_KHZ, limits)
         .with_room_for(usize::MAX)

@@ -230,10 +230,12 @@ fn receiver(codec: Codec, size: usize) -> Receiver {
         payload_type: RTX,
     });
     settings.max_unit = Some(usize::MAX);
-    settings.wait_limits = WaitLimits {
-        hold_back: Some(usize::MAX),
-        start: usize::MAX,
-        max_wait: None,
+    settings.wait_limits = {
+        let mut limits = WaitLimits::live();
+        limits.hold_back = Some(usize::MAX);
+        limits.start = usize::MAX;
+        limits.max_wait = None;
+        limits
     };
     Receiver::new(depacketizer(codec), settings).expect("settings in range")
 }
@@ -331,10 +333,11 @@ fn format(payload_type: u8, codec: Codec, rate: Frequency) -> Format {
         clock_rate: rate,
         octet_align: false,
     };
-    Format {
-        nack: true,
-        pli: true,
-        ..Format::new(payload_type, spec)
+    {
+        let mut format = Format::new(payload_type, spec);
+        format.nack = true;
+        format.pli = true;
+        format
     }
 }
 
@@ -342,17 +345,19 @@ fn format(payload_type: u8, codec: Codec, rate: Frequency) -> Format {
 pub fn session(size: usize) -> Session {
     let mut settings = SessionSettings::live();
     settings.formats = vec![
-        Format {
-            retransmission: Some(RTX),
-            ..format(VP8, Codec::Vp8, Frequency::NINETY_KHZ)
+        {
+            let mut format = format(VP8, Codec::Vp8, Frequency::NINETY_KHZ);
+            format.retransmission = Some(RTX);
+            format
         },
-        Format {
-            red: Some(RedSettings {
+        {
+            let mut format = format(OPUS, Codec::Opus, Frequency::FORTY_EIGHT_KHZ);
+            format.red = Some(RedSettings {
                 payload_type: RED,
                 step: 960,
                 retransmission: None,
-            }),
-            ..format(OPUS, Codec::Opus, Frequency::FORTY_EIGHT_KHZ)
+            });
+            format
         },
     ];
     settings.telephone_events.push(EVENTS);
@@ -360,21 +365,24 @@ pub fn session(size: usize) -> Session {
     settings.max_streams = usize::MAX;
     settings.limit = 65_533;
     settings.max_unit = Some(usize::MAX);
-    settings.feedback = Some(FeedbackSettings {
-        nack: NackSettings {
-            capacity: usize::MAX,
-            ..NackSettings::live()
-        },
-        has_report: true,
-        report_interval: Some(1),
-        max_report: usize::MAX,
-        ..FeedbackSettings::live(1, vec![b'n'; size.clamp(1, 255)])
+    settings.feedback = Some({
+        let mut it = FeedbackSettings::live(1, vec![b'n'; size.clamp(1, 255)]);
+        it.nack = {
+            let mut settings = NackSettings::live();
+            settings.capacity = usize::MAX;
+            settings
+        };
+        it.has_report = true;
+        it.report_interval = Some(1);
+        it.max_report = usize::MAX;
+        it
     });
-    settings.transport = Some(codec_payload::feedback::TransportSettings {
-        interval: 1,
-        size: usize::MAX,
-        window: 32_768,
-        ..codec_payload::feedback::TransportSettings::live(5)
+    settings.transport = Some({
+        let mut settings = codec_payload::feedback::TransportSettings::live(5);
+        settings.interval = 1;
+        settings.size = usize::MAX;
+        settings.window = 32_768;
+        settings
     });
     Session::new(settings).expect("settings that can be met")
 }

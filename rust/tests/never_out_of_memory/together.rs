@@ -72,11 +72,12 @@ fn values_of_extensions() {
     for size in PAYLOADS {
         for many in 0..=3 {
             let mut receiver = receiver(Codec::Vp8, |it| {
-                it.extension_ids = ExtensionIds {
-                    abs_capture_time: Some(1),
-                    video_timing: Some(2),
-                    layers_allocation: Some(3),
-                    ..ExtensionIds::default()
+                it.extension_ids = {
+                    let mut ids = ExtensionIds::default();
+                    ids.abs_capture_time = Some(1);
+                    ids.video_timing = Some(2);
+                    ids.layers_allocation = Some(3);
+                    ids
                 };
             });
             let values = [(1, vec![1; 16]), (2, vec![2; 13]), (3, vec![3; 255])];

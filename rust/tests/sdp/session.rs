@@ -66,19 +66,22 @@ fn chromium() {
         "wait 100 200",
     ];
     assert_eq!(dump(text), wanted);
-    let ids = ExtensionIds {
-        video_orientation: Some(13),
-        video_content_type: Some(6),
-        video_timing: Some(7),
-        audio_level: Some(1),
-        ..ExtensionIds::default()
+    let ids = {
+        let mut ids = ExtensionIds::default();
+        ids.video_orientation = Some(13);
+        ids.video_content_type = Some(6);
+        ids.video_timing = Some(7);
+        ids.audio_level = Some(1);
+        ids
     };
     let settings = settings(text).unwrap();
     assert_eq!(settings.extension_ids, ids);
-    let name_ids = StreamNameIds {
-        mid: Some(4),
-        rid: Some(10),
-        repaired_rid: Some(11),
+    let name_ids = {
+        let mut ids = StreamNameIds::default();
+        ids.mid = Some(4);
+        ids.rid = Some(10);
+        ids.repaired_rid = Some(11);
+        ids
     };
     assert_eq!(settings.name_ids, name_ids);
     assert!(settings.feedback.is_none());

@@ -213,10 +213,11 @@ fn pairs_of_the_caller_win() -> Result<(), Fail> {
 fn packets_without_a_stream() -> Result<(), Fail> {
     let mut session = session(|s| {
         let vp9 = format(VP9, Codec::Vp9, Frequency::NINETY_KHZ);
-        s.formats.push(Format {
-            retransmission: Some(99),
-            nack: true,
-            ..vp9
+        s.formats.push({
+            let mut format = vp9;
+            format.retransmission = Some(99);
+            format.nack = true;
+            format
         });
     });
     with_requests(&mut session, &[(5, 0)])?;

@@ -8,10 +8,11 @@ use codec_payload::*;
 
 /// A format whose packets and keyframes are requested.
 fn requested(payload_type: u8, codec: Codec, clock_rate: Frequency) -> Format {
-    Format {
-        nack: true,
-        pli: true,
-        ..format(payload_type, codec, clock_rate)
+    {
+        let mut format = format(payload_type, codec, clock_rate);
+        format.nack = true;
+        format.pli = true;
+        format
     }
 }
 
@@ -19,9 +20,10 @@ fn requested(payload_type: u8, codec: Codec, clock_rate: Frequency) -> Format {
 fn session() -> Session {
     let mut settings = SessionSettings::live();
     (settings.audio.start, settings.video.start) = (0, 0);
-    settings.feedback = Some(FeedbackSettings {
-        report_interval: None,
-        ..FeedbackSettings::live(1, b"me@host".to_vec())
+    settings.feedback = Some({
+        let mut settings = FeedbackSettings::live(1, b"me@host".to_vec());
+        settings.report_interval = None;
+        settings
     });
     let eight_khz = Frequency::make(8_000).unwrap();
     let red = Some(RedSettings {
@@ -32,9 +34,10 @@ fn session() -> Session {
     settings.formats = vec![
         requested(VP8, Codec::Vp8, Frequency::NINETY_KHZ),
         requested(VP9, Codec::Vp9, Frequency::NINETY_KHZ),
-        Format {
-            red,
-            ..requested(OPUS, Codec::Opus, Frequency::FORTY_EIGHT_KHZ)
+        {
+            let mut format = requested(OPUS, Codec::Opus, Frequency::FORTY_EIGHT_KHZ);
+            format.red = red;
+            format
         },
         requested(PCMU, Codec::PCMU, eight_khz),
         requested(EVENTS, Codec::Tele, eight_khz),

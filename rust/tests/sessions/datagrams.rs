@@ -46,19 +46,21 @@ pub fn pcmu_format() -> Format {
 
 /// VP8 with retransmissions, whose sender answers requests.
 pub fn answered_vp8() -> Format {
-    Format {
-        retransmission: Some(RTX),
-        nack: true,
-        pli: true,
-        ..vp8_format()
+    {
+        let mut format = vp8_format();
+        format.retransmission = Some(RTX);
+        format.nack = true;
+        format.pli = true;
+        format
     }
 }
 
 /// Opus, whose sender answers requests.
 pub fn answered_opus() -> Format {
-    Format {
-        nack: true,
-        ..opus_format()
+    {
+        let mut format = opus_format();
+        format.nack = true;
+        format
     }
 }
 
@@ -69,13 +71,11 @@ pub fn answered_formats() -> Vec<Format> {
         step: 960,
         retransmission: None,
     };
-    vec![
-        answered_vp8(),
-        Format {
-            red: Some(red),
-            ..answered_opus()
-        },
-    ]
+    vec![answered_vp8(), {
+        let mut format = answered_opus();
+        format.red = Some(red);
+        format
+    }]
 }
 
 /// An RTP packet with the marker (RFC 3550, section 5.1).

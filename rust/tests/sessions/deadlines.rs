@@ -27,10 +27,11 @@ fn video(ssrc: u32, number: u16, frame: &[u8]) -> Vec<u8> {
 fn settings(limits: WaitLimits) -> SessionSettings {
     let mut settings = SessionSettings::live();
     settings.formats = vec![
-        Format {
-            nack: true,
-            pli: true,
-            ..vp8_format()
+        {
+            let mut format = vp8_format();
+            format.nack = true;
+            format.pli = true;
+            format
         },
         opus_format(),
     ];
@@ -40,10 +41,12 @@ fn settings(limits: WaitLimits) -> SessionSettings {
 }
 
 fn random(dice: &mut Dice) -> SessionSettings {
-    let mut settings = settings(WaitLimits {
-        hold_back: (dice.below(2) == 0).then(|| dice.below(6) as usize),
-        start: dice.below(4) as usize,
-        max_wait: (dice.below(3) > 0).then(|| dice.below(120).into()),
+    let mut settings = settings({
+        let mut limits = WaitLimits::live();
+        limits.hold_back = (dice.below(2) == 0).then(|| dice.below(6) as usize);
+        limits.start = dice.below(4) as usize;
+        limits.max_wait = (dice.below(3) > 0).then(|| dice.below(120).into());
+        limits
     });
     if dice.below(3) == 0 {
         settings.limit = 8 + dice.below(20) as usize;
@@ -53,10 +56,11 @@ fn random(dice: &mut Dice) -> SessionSettings {
     settings.probation = dice.below(3).into();
     settings.idle_timeout = 500 + u64::from(dice.below(3_000));
     settings.bye_wait = dice.below(300).into();
-    settings.feedback = (dice.below(2) == 0).then(|| FeedbackSettings {
-        report_interval: (dice.below(2) == 0).then_some(1_000),
-        silence: 200,
-        ..FeedbackSettings::live(9, b"me@host".to_vec())
+    settings.feedback = (dice.below(2) == 0).then(|| {
+        let mut settings = FeedbackSettings::live(9, b"me@host".to_vec());
+        settings.report_interval = (dice.below(2) == 0).then_some(1_000);
+        settings.silence = 200;
+        settings
     });
     settings
 }
@@ -147,10 +151,12 @@ fn no_event_before_the_deadline() -> Result<(), Fail> {
 /// A number without media follows a frame that a poll skipped. The next poll goes past that number.
 #[test]
 fn a_poll_that_skips_a_frame() -> Result<(), Fail> {
-    let mut session = Session::new(settings(WaitLimits {
-        hold_back: Some(1),
-        start: 0,
-        max_wait: Some(100),
+    let mut session = Session::new(settings({
+        let mut limits = WaitLimits::live();
+        limits.hold_back = Some(1);
+        limits.start = 0;
+        limits.max_wait = Some(100);
+        limits
     }))
     .expect("settings that can be met");
     for number in [100, 101] {

@@ -32,9 +32,10 @@ struct Call {
 fn settings() -> SessionSettings {
     let mut settings = SessionSettings::live();
     settings.formats = vec![
-        Format {
-            retransmission: None,
-            ..answered_vp8()
+        {
+            let mut format = answered_vp8();
+            format.retransmission = None;
+            format
         },
         answered_opus(),
     ];

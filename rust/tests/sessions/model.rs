@@ -81,14 +81,16 @@ const RED_OVER_OPUS: RedSettings = RedSettings {
 fn session(rules: Rules) -> Session {
     let mut settings = SessionSettings::live();
     settings.formats = vec![
-        Format {
-            retransmission: Some(RTX),
-            nack: rules.requests,
-            ..vp8_format()
+        {
+            let mut format = vp8_format();
+            format.retransmission = Some(RTX);
+            format.nack = rules.requests;
+            format
         },
-        Format {
-            red: Some(RED_OVER_OPUS),
-            ..opus_format()
+        {
+            let mut format = opus_format();
+            format.red = Some(RED_OVER_OPUS);
+            format
         },
         pcmu_format(),
     ];
@@ -100,11 +102,12 @@ fn session(rules: Rules) -> Session {
             retransmission: 2,
         });
     }
-    settings.feedback = Some(FeedbackSettings {
-        longest_wait: None,
-        report_interval: None,
-        keyframe_interval: 500,
-        ..FeedbackSettings::live(OWN, b"me@host".to_vec())
+    settings.feedback = Some({
+        let mut settings = FeedbackSettings::live(OWN, b"me@host".to_vec());
+        settings.longest_wait = None;
+        settings.report_interval = None;
+        settings.keyframe_interval = 500;
+        settings
     });
     settings.max_streams = rules.max_streams;
     settings.probation = rules.probation;
@@ -123,10 +126,11 @@ fn retransmission(ssrc: u32) -> Retransmission {
 
 /// When a stream of VP8 requests a packet: its frames wait for 200 ms, so two requests of a number are at most 50 ms apart.
 fn request_times() -> NackSettings {
-    NackSettings {
-        retry: 50,
-        longest_retry: 50,
-        ..NackSettings::live()
+    {
+        let mut settings = NackSettings::live();
+        settings.retry = 50;
+        settings.longest_retry = 50;
+        settings
     }
 }
 
@@ -140,9 +144,10 @@ fn receiver(ssrc: u32, payload_type: u8, again: Option<u32>) -> Receiver {
         (Codec::Vp8, settings)
     } else {
         let Format { spec, red, .. } = if payload_type == OPUS {
-            Format {
-                red: Some(RED_OVER_OPUS),
-                ..opus_format()
+            {
+                let mut format = opus_format();
+                format.red = Some(RED_OVER_OPUS);
+                format
             }
         } else {
             pcmu_format()

@@ -15,10 +15,12 @@ fn session(change: impl FnOnce(&mut SessionSettings)) -> Session {
     let mut settings = SessionSettings::live();
     settings.formats = answered_formats();
     settings.telephone_events = vec![EVENTS];
-    settings.name_ids = StreamNameIds {
-        mid: Some(MID),
-        rid: Some(RID),
-        repaired_rid: Some(REPAIRED),
+    settings.name_ids = {
+        let mut ids = StreamNameIds::default();
+        ids.mid = Some(MID);
+        ids.rid = Some(RID);
+        ids.repaired_rid = Some(REPAIRED);
+        ids
     };
     change(&mut settings);
     Session::new(settings).expect("settings that can be met")

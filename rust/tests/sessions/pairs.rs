@@ -11,9 +11,10 @@ fn session() -> Session {
     let mut settings = SessionSettings::live();
     settings.video.start = 0;
     settings.probation = 1;
-    settings.formats.push(Format {
-        retransmission: Some(RTX),
-        ..vp8_format()
+    settings.formats.push({
+        let mut format = vp8_format();
+        format.retransmission = Some(RTX);
+        format
     });
     let vp9 = format(VP9, Codec::Vp9, Frequency::NINETY_KHZ);
     settings.formats.push(vp9);

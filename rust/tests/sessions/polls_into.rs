@@ -74,9 +74,10 @@ fn session(max_unit: usize) -> Session {
     settings.telephone_events = vec![EVENTS];
     settings.max_streams = 4;
     settings.max_unit = Some(max_unit);
-    settings.feedback = Some(FeedbackSettings {
-        report_interval: Some(400),
-        ..FeedbackSettings::live(9, b"me@host".to_vec())
+    settings.feedback = Some({
+        let mut settings = FeedbackSettings::live(9, b"me@host".to_vec());
+        settings.report_interval = Some(400);
+        settings
     });
     Session::new(settings).expect("settings that can be met")
 }

@@ -20,9 +20,10 @@ fn session(change: impl Fn(&mut SessionSettings)) -> Session {
     for limits in [&mut settings.audio, &mut settings.video] {
         (limits.start, limits.max_wait) = (0, Some(1_000));
     }
-    settings.feedback = Some(FeedbackSettings {
-        keyframe_interval: 500,
-        ..FeedbackSettings::live(OWN, b"me@host".to_vec())
+    settings.feedback = Some({
+        let mut settings = FeedbackSettings::live(OWN, b"me@host".to_vec());
+        settings.keyframe_interval = 500;
+        settings
     });
     change(&mut settings);
     Session::new(settings).expect("settings that can be met")

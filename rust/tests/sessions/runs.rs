@@ -140,10 +140,12 @@ fn streams_do_not_disturb_each_other() -> Result<(), Fail> {
 fn every_call() -> Result<(), Fail> {
     let mut session = Session::new(settings()).expect("settings that can be met");
     run_session(&mut session, &[receive(0, opus(1, 1))])?;
-    let wait_limits = codec_payload::jitter::WaitLimits {
-        hold_back: Some(0),
-        start: 0,
-        max_wait: None,
+    let wait_limits = {
+        let mut limits = codec_payload::jitter::WaitLimits::live();
+        limits.hold_back = Some(0);
+        limits.start = 0;
+        limits.max_wait = None;
+        limits
     };
     let steps = [
         SessionStep::SetWaitLimits {

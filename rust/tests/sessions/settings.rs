@@ -22,14 +22,15 @@ fn whole() -> SessionSettings {
         octet_align: false,
     };
     settings.formats = vec![
-        Format {
-            red: Some(RedSettings {
+        {
+            let mut format = Format::new(111, OPUS_SPEC);
+            format.red = Some(RedSettings {
                 payload_type: 63,
                 step: 960,
                 retransmission: Some(98),
-            }),
-            retransmission: Some(97),
-            ..Format::new(111, OPUS_SPEC)
+            });
+            format.retransmission = Some(97);
+            format
         },
         Format::new(96, vp8),
     ];

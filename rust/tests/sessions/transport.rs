@@ -270,7 +270,11 @@ fn settings_of_a_transport_have_faults() {
         let mut settings = SessionSettings::live();
         settings.formats = vec![opus_format()];
         let live = TransportSettings::live(id);
-        settings.transport = Some(TransportSettings { window, ..live });
+        settings.transport = Some({
+            let mut settings = live;
+            settings.window = window;
+            settings
+        });
         settings.check().err()
     };
     assert_eq!(fault(1, 1), None);

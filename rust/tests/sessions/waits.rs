@@ -15,14 +15,16 @@ fn session_within(wait: Waiting, late: AdaptiveWaitSettings) -> Session {
     let mut settings = SessionSettings::live();
     settings.late = late;
     settings.formats = vec![
-        Format {
-            wait,
-            ..answered_vp8()
+        {
+            let mut format = answered_vp8();
+            format.wait = wait;
+            format
         },
-        Format {
-            retransmission: Some(RTX + 3),
-            wait,
-            ..opus_format()
+        {
+            let mut format = opus_format();
+            format.retransmission = Some(RTX + 3);
+            format.wait = wait;
+            format
         },
     ];
     settings.pairs = vec![SsrcPair {
@@ -96,9 +98,10 @@ fn waiting_follows_late_packets() -> Result<(), Fail> {
 /// A packet that comes after its frame was discarded counts too, or the limit would never rise again.
 #[test]
 fn packets_that_come_too_late_count() -> Result<(), Fail> {
-    let settings = AdaptiveWaitSettings {
-        first: 0,
-        ..AdaptiveWaitSettings::live()
+    let settings = {
+        let mut settings = AdaptiveWaitSettings::live();
+        settings.first = 0;
+        settings
     };
     let mut session = session_within(Waiting::Late, settings);
     session.receive(Ticks(0), &opus(7, 0))?;
@@ -166,4 +169,53 @@ fn frames_wait_for_the_limit() -> Result<(), Fail> {
         (0, 1)
     );
     Ok(())
+}
+
+/// What polls answer at each millisecond, if a clock has so many ticks in one. Of 400 frames each ninth is lost, and nobody answers.
+fn answers_by(ticks: u64) -> Vec<(u64, String)> {
+    let mut settings = SessionSettings::live();
+    settings.formats = answered_formats();
+    settings.feedback = Some(FeedbackSettings::live(1, b"me@host".to_vec()));
+    settings.set_tick_rate(Frequency::make(1_000 * ticks as u32).unwrap());
+    let mut session = Session::new(settings).unwrap();
+    let mut answers = Vec::new();
+    for now in 0..45_000 {
+        if now % 30 == 0 && now < 12_000 && now / 30 % 9 != 5 {
+            let number = (now / 30) as u16;
+            session
+                .receive(Ticks(now * ticks), &vp8(7, number, number % 60 == 0))
+                .unwrap();
+        }
+        while let Some(event) = session.poll(Ticks(now * ticks)) {
+            let text = match event {
+                // Its jitter and its times are rounded to the ticks of the clock.
+                Event::Report { .. } => "Report".to_string(),
+                // The times of arrival of its packets are in ticks.
+                Event::Unit { rtp_time, unit, .. } => {
+                    format!("Unit {rtp_time:?} {:?}", unit.unwrap().bytes)
+                }
+                other => format!("{other:?}"),
+            };
+            answers.push((now, text));
+        }
+    }
+    answers
+}
+
+#[test]
+fn a_session_by_microseconds_answers_as_one_by_milliseconds() {
+    let answers = answers_by(1);
+    assert!(answers.iter().any(|(_, text)| text.starts_with("Ended")));
+    assert!(
+        answers
+            .iter()
+            .filter(|(_, text)| text.starts_with("Feedback"))
+            .count()
+            > 40
+    );
+    let other = answers_by(1_000);
+    for (one, two) in answers.iter().zip(&other) {
+        assert_eq!(one, two);
+    }
+    assert_eq!(answers.len(), other.len());
 }

@@ -11,17 +11,19 @@ use codec_payload::jitter::jitter_buffer::WaitLimits;
 use codec_payload::rtp::RtpPacket;
 use codec_payload::schedule::forwarded::{ForwardLink, ForwardStep, ForwardedRun, run_forwarded};
 use codec_payload::sender::Sender;
-use codec_payload::stream::receiver::{Receiver, ReceiverSettings, Retransmission};
+use codec_payload::stream::receiver::{Receiver, Retransmission};
 use codec_payload::wire::{Codec, Ticks, ToPayload};
 
 /// How many blocks of eight frames there are; each frame has two datagrams.
 pub const BLOCKS: usize = 25;
 
 /// Nothing that is complete waits.
-const AT_ONCE: WaitLimits = WaitLimits {
-    hold_back: Some(1_000),
-    start: 0,
-    max_wait: Some(0),
+const AT_ONCE: WaitLimits = {
+    let mut limits = WaitLimits::live();
+    limits.hold_back = Some(1_000);
+    limits.start = 0;
+    limits.max_wait = Some(0);
+    limits
 };
 
 /// A sender of VP8 without picture ids, a forwarder that wants its stream, and a viewer's receiver.
@@ -49,14 +51,15 @@ pub fn link_again(
         retransmissions: again,
     })?;
     forwarder.want(7);
-    let settings = ReceiverSettings {
-        payload_type: 101,
-        ssrc: Some(0x7777),
-        retransmission: again.map(|stream| Retransmission {
+    let settings = {
+        let mut settings = receiver_settings(AT_ONCE)?;
+        settings.payload_type = 101;
+        settings.ssrc = Some(0x7777);
+        settings.retransmission = again.map(|stream| Retransmission {
             ssrc: stream.ssrc,
             payload_type: stream.payload_type,
-        }),
-        ..receiver_settings(AT_ONCE)?
+        });
+        settings
     };
     let depacketizer = CodecDepacketizer::from_codec(codec).ok_or("no depacketizer")?;
     Ok(ForwardLink {

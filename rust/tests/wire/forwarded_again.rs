@@ -12,17 +12,19 @@ use codec_payload::schedule::forwarded::{
     ForwardLink, ForwardStep, StoreLink, StoreRun, StoreStep, run_forwarded_with_store,
 };
 use codec_payload::sender::{Sender, SenderSettings};
-use codec_payload::stream::receiver::{Receiver, ReceiverSettings, Retransmission};
+use codec_payload::stream::receiver::{Receiver, Retransmission};
 use codec_payload::wire::{Codec, Frequency, MediaTime, Pt, Ticks, ToPayload};
 
 /// How many frames there are; each has two datagrams.
 const FRAMES: usize = 40;
 
 /// A unit waits for the packets in front of it.
-const PATIENT: WaitLimits = WaitLimits {
-    hold_back: Some(1_000),
-    start: 0,
-    max_wait: None,
+const PATIENT: WaitLimits = {
+    let mut limits = WaitLimits::live();
+    limits.hold_back = Some(1_000);
+    limits.start = 0;
+    limits.max_wait = None;
+    limits
 };
 
 const AGAIN: RetransmissionStream = RetransmissionStream {
@@ -42,14 +44,15 @@ fn link_of(again: Option<RetransmissionStream>) -> Result<StoreLink<NoBox, NoBox
         retransmissions: again,
     })?;
     forwarder.want(7);
-    let settings = ReceiverSettings {
-        payload_type: 101,
-        ssrc: Some(0x7777),
-        retransmission: again.map(|stream| Retransmission {
+    let settings = {
+        let mut settings = receiver_settings(PATIENT)?;
+        settings.payload_type = 101;
+        settings.ssrc = Some(0x7777);
+        settings.retransmission = again.map(|stream| Retransmission {
             ssrc: stream.ssrc,
             payload_type: stream.payload_type,
-        }),
-        ..receiver_settings(PATIENT)?
+        });
+        settings
     };
     let depacketizer = CodecDepacketizer::from_codec(Codec::Vp8).ok_or("no depacketizer")?;
     let store = HistorySettings {
@@ -184,20 +187,23 @@ pub fn link_of_opus() -> Result<StoreLink<NoBox, NoBox>, Fail> {
         }),
     })?;
     forwarder.want(7);
-    let limits = WaitLimits {
-        hold_back: None,
-        start: 1,
-        max_wait: Some(100),
+    let limits = {
+        let mut limits = WaitLimits::live();
+        limits.hold_back = None;
+        limits.start = 1;
+        limits.max_wait = Some(100);
+        limits
     };
-    let receiver = ReceiverSettings {
-        payload_type: 109,
-        ssrc: Some(9),
-        retransmission: Some(Retransmission {
+    let receiver = {
+        let mut settings = receiver_settings(limits)?;
+        settings.payload_type = 109;
+        settings.ssrc = Some(9);
+        settings.retransmission = Some(Retransmission {
             ssrc: 8,
             payload_type: 112,
-        }),
-        clock_rate,
-        ..receiver_settings(limits)?
+        });
+        settings.clock_rate = clock_rate;
+        settings
     };
     let depacketizer = CodecDepacketizer::from_codec(Codec::Opus).ok_or("no depacketizer")?;
     Ok(StoreLink {

@@ -27,10 +27,12 @@ struct Case {
 }
 
 fn receiver_for(case: &Case) -> Result<Receiver<NoBox>, Fail> {
-    let limits = WaitLimits {
-        hold_back: case.hold_back,
-        start: case.start,
-        max_wait: Some(case.max_wait),
+    let limits = {
+        let mut limits = WaitLimits::live();
+        limits.hold_back = case.hold_back;
+        limits.start = case.start;
+        limits.max_wait = Some(case.max_wait);
+        limits
     };
     let mut settings = receiver_settings(limits)?;
     settings.limit = case.limit;

@@ -13,10 +13,12 @@ use codec_payload::wire::{Ticks, ToPayload};
 const BLOCKS: u8 = 25;
 
 /// Nothing that is complete waits.
-const AT_ONCE: WaitLimits = WaitLimits {
-    hold_back: Some(1_000),
-    start: 0,
-    max_wait: Some(0),
+const AT_ONCE: WaitLimits = {
+    let mut limits = WaitLimits::live();
+    limits.hold_back = Some(1_000);
+    limits.start = 0;
+    limits.max_wait = Some(0);
+    limits
 };
 
 /// The steps, and the results that the network's losses give.

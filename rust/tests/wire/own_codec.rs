@@ -23,10 +23,12 @@ const FIRST: u8 = 1;
 const LAST: u8 = 2;
 
 /// All complete frames are released.
-const AT_ONCE: WaitLimits = WaitLimits {
-    hold_back: Some(0),
-    start: 0,
-    max_wait: Some(0),
+const AT_ONCE: WaitLimits = {
+    let mut limits = WaitLimits::live();
+    limits.hold_back = Some(0);
+    limits.start = 0;
+    limits.max_wait = Some(0);
+    limits
 };
 
 /// Sends each byte of a frame in a separate payload, after a byte that says its place in the frame.

@@ -65,10 +65,12 @@ pub fn link_with(
 
 /// The same with a receiver whose frames wait for missing packets until the end.
 fn link_of(distances: &[u32], limit: usize) -> Result<RedLink<NoBox, NoBox>, Fail> {
-    let limits = WaitLimits {
-        hold_back: None,
-        start: 0,
-        max_wait: None,
+    let limits = {
+        let mut limits = WaitLimits::live();
+        limits.hold_back = None;
+        limits.start = 0;
+        limits.max_wait = None;
+        limits
     };
     link_with(distances, limit, limits, |_| {})
 }

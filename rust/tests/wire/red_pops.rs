@@ -207,10 +207,12 @@ fn pops_are_those_of_the_model() -> Result<(), Fail> {
         for seed in 0..60 {
             let mut random = Random::new(seed * 7 + number as u32);
             let steps = steps_of(&mut random);
-            let limits = WaitLimits {
-                hold_back: Some(case.hold_back),
-                start: 0,
-                max_wait: None,
+            let limits = {
+                let mut limits = WaitLimits::live();
+                limits.hold_back = Some(case.hold_back);
+                limits.start = 0;
+                limits.max_wait = None;
+                limits
             };
             let mut link = link_with(case.distances, case.limit, limits, |settings| {
                 settings.forward = FORWARD as u16;
@@ -252,10 +254,12 @@ fn datagram_of(index: usize, has_block: bool) -> Result<Vec<u8>, Fail> {
 #[test]
 fn a_packet_a_turn_after_a_block_is_taken_for_it() -> Result<(), Fail> {
     const TURN: usize = 1 << 19;
-    let limits = WaitLimits {
-        hold_back: Some(0),
-        start: 0,
-        max_wait: None,
+    let limits = {
+        let mut limits = WaitLimits::live();
+        limits.hold_back = Some(0);
+        limits.start = 0;
+        limits.max_wait = None;
+        limits
     };
     let mut receiver = link_with(&[1], 64, limits, |settings| {
         settings.forward = 32_768;

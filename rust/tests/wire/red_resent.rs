@@ -22,10 +22,12 @@ const AGAIN: RetransmissionStream = RetransmissionStream {
 
 /// How long frames wait: for `hold_back` complete ones.
 fn limits_of(hold_back: Option<usize>) -> WaitLimits {
-    WaitLimits {
-        hold_back,
-        start: 0,
-        max_wait: None,
+    {
+        let mut limits = WaitLimits::live();
+        limits.hold_back = hold_back;
+        limits.start = 0;
+        limits.max_wait = None;
+        limits
     }
 }
 

@@ -40,10 +40,12 @@ fn link_of(
     interval: u64,
     stream: Option<RetransmissionStream>,
 ) -> Result<Link<NoBox, NoBox>, Fail> {
-    let mut settings = receiver_settings(WaitLimits {
-        hold_back: None,
-        start: 0,
-        max_wait: None,
+    let mut settings = receiver_settings({
+        let mut limits = WaitLimits::live();
+        limits.hold_back = None;
+        limits.start = 0;
+        limits.max_wait = None;
+        limits
     })?;
     settings.retransmission = stream.map(|s| Retransmission {
         ssrc: s.ssrc,

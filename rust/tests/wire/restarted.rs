@@ -16,10 +16,12 @@ const FRAMES: u8 = 40;
 const PARTS: u8 = 6;
 
 /// Frames wait for missing packets until the end.
-const UNTIL_THE_END: WaitLimits = WaitLimits {
-    hold_back: None,
-    start: 0,
-    max_wait: None,
+const UNTIL_THE_END: WaitLimits = {
+    let mut limits = WaitLimits::live();
+    limits.hold_back = None;
+    limits.start = 0;
+    limits.max_wait = None;
+    limits
 };
 
 fn frame_of(part: u8, index: u8) -> [u8; 3] {

@@ -46,17 +46,21 @@ const THIRD: &[u8] = &[0x13, 5, 6];
 const FRAMES: [&[u8]; 4] = [FIRST, SECOND, THIRD, &[]];
 
 /// A frame after a gap waits for 50 ticks.
-const WAITS: WaitLimits = WaitLimits {
-    hold_back: Some(1_000),
-    start: 0,
-    max_wait: Some(50),
+const WAITS: WaitLimits = {
+    let mut limits = WaitLimits::live();
+    limits.hold_back = Some(1_000);
+    limits.start = 0;
+    limits.max_wait = Some(50);
+    limits
 };
 
 /// The first frame also waits for a second one.
-const STARTS_LATER: WaitLimits = WaitLimits {
-    hold_back: Some(1_000),
-    start: 1,
-    max_wait: Some(50),
+const STARTS_LATER: WaitLimits = {
+    let mut limits = WaitLimits::live();
+    limits.hold_back = Some(1_000);
+    limits.start = 1;
+    limits.max_wait = Some(50);
+    limits
 };
 
 const ROWS: [Row; 8] = [

@@ -37,9 +37,10 @@ pub fn session() -> Result<Session, Fail> {
     let mut settings = SessionSettings::live();
     let video = format_of(STREAM.payload_type, Codec::Vp8, 90_000)?;
     settings.formats = vec![
-        Format {
-            retransmission: Some(97),
-            ..video
+        {
+            let mut format = video;
+            format.retransmission = Some(97);
+            format
         },
         format_of(111, Codec::Opus, 48_000)?,
     ];

@@ -16,7 +16,7 @@ use codec_payload::schedule::served::{
     Moment, ServeStep, ServeStoreLink, ServeStoreStep, ServedStoreRun, run_served_with_store,
 };
 use codec_payload::session::runs::{SessionStep, StepAnswer};
-use codec_payload::session::{Arrival, Format, Session, SessionSettings, SsrcPair};
+use codec_payload::session::{Arrival, Session, SessionSettings, SsrcPair};
 use codec_payload::wire::{Codec, Ticks};
 
 const AGAIN: RetransmissionStream = RetransmissionStream {
@@ -253,9 +253,10 @@ pub const OPUS_AGAIN: RetransmissionStream = RetransmissionStream {
 /// A session for these streams.
 pub fn session_of_opus() -> Result<Session, Fail> {
     let mut settings = SessionSettings::live();
-    settings.formats = vec![Format {
-        retransmission: Some(112),
-        ..format_of(111, Codec::Opus, 48_000)?
+    settings.formats = vec![{
+        let mut format = format_of(111, Codec::Opus, 48_000)?;
+        format.retransmission = Some(112);
+        format
     }];
     settings.pairs = vec![SsrcPair {
         ssrc: 7,

@@ -31,22 +31,23 @@ pub fn sender_of() -> Result<Sender<NoBox>, Fail> {
 
 /// Of a receiver of what that sender sends.
 pub fn receiver_settings(wait_limits: WaitLimits) -> Result<ReceiverSettings, Fail> {
-    Ok(ReceiverSettings {
-        payload_type: 96,
-        no_media: Vec::new(),
-        ssrc: Some(7),
-        red: None,
-        retransmission: None,
-        extension_ids: ExtensionIds::default(),
-        clock_rate: Frequency::make(90_000).ok_or("a rate")?,
-        tick_rate: Frequency::make(1_000).ok_or("a rate")?,
-        wait_limits,
-        limit: 4_096,
-        forward: 3_000,
-        backward: 1_000,
-        from_keyframe: FromKeyframe::Mark,
-        max_unit: None,
-        dependency_descriptor: None,
+    Ok({
+        let mut settings =
+            ReceiverSettings::live_audio(96, Frequency::make(90_000).ok_or("a rate")?);
+        settings.no_media = Vec::new();
+        settings.ssrc = Some(7);
+        settings.red = None;
+        settings.retransmission = None;
+        settings.extension_ids = ExtensionIds::default();
+        settings.tick_rate = Frequency::make(1_000).ok_or("a rate")?;
+        settings.wait_limits = wait_limits;
+        settings.limit = 4_096;
+        settings.forward = 3_000;
+        settings.backward = 1_000;
+        settings.from_keyframe = FromKeyframe::Mark;
+        settings.max_unit = None;
+        settings.dependency_descriptor = None;
+        settings
     })
 }
 

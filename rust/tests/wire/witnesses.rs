@@ -85,15 +85,18 @@ fn receiver(
     codec: Codec,
     change: impl FnOnce(&mut ReceiverSettings),
 ) -> Result<Receiver<NoBox>, Fail> {
-    let limits = WaitLimits {
-        hold_back: None,
-        start: 1,
-        max_wait: Some(100),
+    let limits = {
+        let mut limits = WaitLimits::live();
+        limits.hold_back = None;
+        limits.start = 1;
+        limits.max_wait = Some(100);
+        limits
     };
-    let mut settings = ReceiverSettings {
-        payload_type: 111,
-        clock_rate: Frequency::make(48_000).ok_or("a rate")?,
-        ..receiver_settings(limits)?
+    let mut settings = {
+        let mut settings = receiver_settings(limits)?;
+        settings.payload_type = 111;
+        settings.clock_rate = Frequency::make(48_000).ok_or("a rate")?;
+        settings
     };
     change(&mut settings);
     let depacketizer = CodecDepacketizer::from_codec(codec).ok_or("no depacketizer")?;
@@ -161,9 +164,10 @@ fn premises_can_be_met() -> Result<(), Fail> {
 /// A frame of AV1 with an orientation, whose element has the id 3.
 #[test]
 fn premises_can_be_met_by_a_frame_with_a_value() -> Result<(), Fail> {
-    let ids = ExtensionIds {
-        video_orientation: Some(3),
-        ..ExtensionIds::default()
+    let ids = {
+        let mut ids = ExtensionIds::default();
+        ids.video_orientation = Some(3);
+        ids
     };
     let mut of_sender = sender(Codec::Av1, |it| it.extension_ids = ids)?;
     let mut of_receiver = receiver(Codec::Av1, |it| it.extension_ids = ids)?;

@@ -24,11 +24,12 @@ fn extended_reports(body: &[u8]) {
 
 /// Any bytes: a packet that was read is written and read again.
 pub fn packets(input: &mut Input) {
-    let ids = ExtensionIds {
-        abs_capture_time: Some(1 + input.byte() % 14),
-        video_orientation: Some(1 + input.byte() % 14),
-        audio_level: Some(1 + input.byte() % 14),
-        ..ExtensionIds::default()
+    let ids = {
+        let mut ids = ExtensionIds::default();
+        ids.abs_capture_time = Some(1 + input.byte() % 14);
+        ids.video_orientation = Some(1 + input.byte() % 14);
+        ids.audio_level = Some(1 + input.byte() % 14);
+        ids
     };
     let bytes = input.0;
     let _ = is_rtcp(bytes);

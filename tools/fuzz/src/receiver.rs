@@ -30,10 +30,12 @@ fn receiver_of(input: &mut Input) -> Option<Receiver> {
     if how & 16 != 0 {
         (settings.forward, settings.backward) = (input.word(), input.word());
     }
-    settings.wait_limits = WaitLimits {
-        hold_back: (how & 32 != 0).then(|| usize::from(input.byte() % 9)),
-        start: usize::from(input.byte() % 5),
-        max_wait: (how & 64 != 0).then(|| u64::from(input.byte())),
+    settings.wait_limits = {
+        let mut limits = WaitLimits::live();
+        limits.hold_back = (how & 32 != 0).then(|| usize::from(input.byte() % 9));
+        limits.start = usize::from(input.byte() % 5);
+        limits.max_wait = (how & 64 != 0).then(|| u64::from(input.byte()));
+        limits
     };
     Receiver::new(depacketizer(&spec), settings).ok()
 }

@@ -32,11 +32,12 @@ fn formats(input: &mut Input) -> Vec<Format> {
             retransmission: Some(99),
         })
     };
-    let format = |payload_type, spec, red| Format {
-        red,
-        nack: how & 1 == 0,
-        pli: how & 2 == 0,
-        ..Format::new(payload_type, spec)
+    let format = |payload_type, spec, red| {
+        let mut format = Format::new(payload_type, spec);
+        format.red = red;
+        format.nack = how & 1 == 0;
+        format.pli = how & 2 == 0;
+        format
     };
     let mut first = format(96, spec(input), red(63, 90));
     first.retransmission = (how & 4 == 0).then_some(98);
@@ -51,67 +52,75 @@ fn formats(input: &mut Input) -> Vec<Format> {
 
 fn wait_limits(input: &mut Input) -> WaitLimits {
     let how = input.byte();
-    WaitLimits {
-        hold_back: (how & 1 != 0).then_some(usize::from(how >> 4)),
-        start: usize::from(how >> 1 & 3),
-        max_wait: (how & 8 == 0).then(|| u64::from(input.byte())),
+    {
+        let mut limits = WaitLimits::live();
+        limits.hold_back = (how & 1 != 0).then_some(usize::from(how >> 4));
+        limits.start = usize::from(how >> 1 & 3);
+        limits.max_wait = (how & 8 == 0).then(|| u64::from(input.byte()));
+        limits
     }
 }
 
 /// Requests with any times, at most 7 of a number, and at least a tick between two of a keyframe.
 fn feedback(input: &mut Input) -> FeedbackSettings {
     let how = input.byte();
-    FeedbackSettings {
-        cname: vec![b'n'; 1 + usize::from(how >> 4) * 16],
-        has_report: how & 1 != 0,
-        nack: NackSettings {
-            first_wait: (input.byte() % 32).into(),
-            retry: input.byte().into(),
-            shortest_retry: input.byte().into(),
-            longest_retry: input.byte().into(),
-            tries: (how >> 1 & 7).into(),
-            capacity: input.byte().into(),
-        },
-        keyframe_interval: input.byte().into(),
-        silence: input.word().into(),
-        longest_wait: (how & 8 == 0).then(|| input.word().into()),
-        report_interval: (how & 16 == 0).then(|| input.word().into()),
-        max_report: input.word() as usize,
-        ..FeedbackSettings::live(OWN, b"me@host".to_vec())
+    {
+        let mut it = FeedbackSettings::live(OWN, b"me@host".to_vec());
+        it.cname = vec![b'n'; 1 + usize::from(how >> 4) * 16];
+        it.has_report = how & 1 != 0;
+        it.nack = {
+            let mut settings = NackSettings::live();
+            settings.first_wait = (input.byte() % 32).into();
+            settings.retry = input.byte().into();
+            settings.shortest_retry = input.byte().into();
+            settings.longest_retry = input.byte().into();
+            settings.tries = (how >> 1 & 7).into();
+            settings.capacity = input.byte().into();
+            settings
+        };
+        it.keyframe_interval = input.byte().into();
+        it.silence = input.word().into();
+        it.longest_wait = (how & 8 == 0).then(|| input.word().into());
+        it.report_interval = (how & 16 == 0).then(|| input.word().into());
+        it.max_report = input.word() as usize;
+        it
     }
 }
 
 fn settings(input: &mut Input) -> SessionSettings {
     let how = input.byte();
-    SessionSettings {
-        formats: formats(input),
-        no_media: vec![13],
-        telephone_events: vec![97],
-        pairs: vec![SsrcPair {
+    {
+        let mut settings = SessionSettings::live();
+        settings.formats = formats(input);
+        settings.no_media = vec![13];
+        settings.telephone_events = vec![97];
+        settings.pairs = vec![SsrcPair {
             ssrc: 1,
             retransmission: 2,
-        }],
-        audio: wait_limits(input),
-        video: wait_limits(input),
-        from_keyframe: [FromKeyframe::Off, FromKeyframe::Mark, FromKeyframe::Drop]
-            [usize::from(how & 3) % 3],
-        limit: if how & 4 == 0 {
+        }];
+        settings.audio = wait_limits(input);
+        settings.video = wait_limits(input);
+        settings.from_keyframe =
+            [FromKeyframe::Off, FromKeyframe::Mark, FromKeyframe::Drop][usize::from(how & 3) % 3];
+        settings.limit = if how & 4 == 0 {
             4_096
         } else {
             1 + usize::from(input.byte() % 16)
-        },
-        max_streams: usize::from(how >> 3 & 3) + usize::from(how & 128 == 0),
-        probation: (how >> 5 & 3).into(),
-        idle_timeout: input.word().into(),
-        bye_wait: input.byte().into(),
-        feedback: (input.byte() < 192).then(|| feedback(input)),
-        name_ids: StreamNameIds {
-            mid: Some(3),
-            rid: Some(4),
-            repaired_rid: Some(5),
-        },
-        dependency_descriptor: Some(2),
-        ..SessionSettings::live()
+        };
+        settings.max_streams = usize::from(how >> 3 & 3) + usize::from(how & 128 == 0);
+        settings.probation = (how >> 5 & 3).into();
+        settings.idle_timeout = input.word().into();
+        settings.bye_wait = input.byte().into();
+        settings.feedback = (input.byte() < 192).then(|| feedback(input));
+        settings.name_ids = {
+            let mut ids = StreamNameIds::default();
+            ids.mid = Some(3);
+            ids.rid = Some(4);
+            ids.repaired_rid = Some(5);
+            ids
+        };
+        settings.dependency_descriptor = Some(2);
+        settings
     }
 }
 

@@ -143,10 +143,12 @@ impl Model {
 
 /// A receiver and its model with the same settings.
 fn pair(dice: &mut Dice) -> (Receiver, Model) {
-    let limits = WaitLimits {
-        hold_back: dice.of(&[None, Some(0), Some(1), Some(3)]),
-        start: dice.below(4) as usize,
-        max_wait: dice.of(&[None, Some(0), Some(20), Some(60)]),
+    let limits = {
+        let mut limits = WaitLimits::live();
+        limits.hold_back = dice.of(&[None, Some(0), Some(1), Some(3)]);
+        limits.start = dice.below(4) as usize;
+        limits.max_wait = dice.of(&[None, Some(0), Some(20), Some(60)]);
+        limits
     };
     let mut settings = ReceiverSettings::live_audio(PAYLOAD_TYPE, Frequency::FORTY_EIGHT_KHZ);
     settings.ssrc = Some(SSRC);

@@ -223,10 +223,12 @@ fn settings(spec: &CodecSpec, input: &mut Input) -> (ReceiverSettings, [u64; 9])
     let mut ours = ReceiverSettings::for_stream(96, spec.codec, spec.clock_rate);
     ours.no_media = vec![97, 13];
     ours.ssrc = Some(1);
-    ours.wait_limits = WaitLimits {
-        hold_back,
-        start: usize::from(input.byte() % 5),
-        max_wait,
+    ours.wait_limits = {
+        let mut limits = WaitLimits::live();
+        limits.hold_back = hold_back;
+        limits.start = usize::from(input.byte() % 5);
+        limits.max_wait = max_wait;
+        limits
     };
     ours.red = (step > 0).then_some(RedSettings {
         payload_type: 63,

@@ -67,9 +67,8 @@ impl Session {
     /// The fields of the event and of its unit, and its bytes.
     pub fn poll(&mut self, now: u64) -> Option<([u64; 12], Vec<u8>)> {
         let (mut bytes, mut event) = (vec![0; ROOM], [0; 13]);
-        let status = unsafe {
-            twin_session_poll(self.0, now, bytes.as_mut_ptr(), ROOM, event.as_mut_ptr())
-        };
+        let status =
+            unsafe { twin_session_poll(self.0, now, bytes.as_mut_ptr(), ROOM, event.as_mut_ptr()) };
         if status == NONE {
             return None;
         }

@@ -18,12 +18,13 @@ fn formats(spec: CodecSpec) -> Vec<Format> {
         clock_rate: Frequency::FORTY_EIGHT_KHZ,
         octet_align: false,
     };
-    let format = |payload_type, spec, red, retransmission| Format {
-        red,
-        retransmission,
-        nack: true,
-        pli: true,
-        ..Format::new(payload_type, spec)
+    let format = |payload_type, spec, red, retransmission| {
+        let mut format = Format::new(payload_type, spec);
+        format.red = red;
+        format.retransmission = retransmission;
+        format.nack = true;
+        format.pli = true;
+        format
     };
     let red = RedSettings {
         payload_type: 63,
@@ -58,10 +59,12 @@ fn settings(spec: CodecSpec, input: &mut Input) -> (SessionSettings, [u64; 8]) {
     ours.bye_wait = u64::from(input.byte());
     let from_keyframe = input.byte() % 3;
     ours.feedback = Some(FeedbackSettings::live(77, b"me@host".to_vec()));
-    ours.name_ids = StreamNameIds {
-        mid: Some(3),
-        rid: Some(4),
-        repaired_rid: Some(5),
+    ours.name_ids = {
+        let mut ids = StreamNameIds::default();
+        ids.mid = Some(3);
+        ids.rid = Some(4);
+        ids.repaired_rid = Some(5);
+        ids
     };
     ours.dependency_descriptor = Some(2);
     ours.from_keyframe =

@@ -55,11 +55,13 @@ impl Drop for Wait {
 fn settings(input: &mut Input) -> AdaptiveWaitSettings {
     let wide = if input.byte() % 16 == 0 { 50 } else { 0 };
     let mut value = |most: u16| u64::from(input.word() % most) << wide;
-    AdaptiveWaitSettings {
-        shortest: value(60),
-        longest: value(800),
-        first: value(400),
-        lost_after: value(2_000),
+    {
+        let mut settings = AdaptiveWaitSettings::live();
+        settings.shortest = value(60);
+        settings.longest = value(800);
+        settings.first = value(400);
+        settings.lost_after = value(2_000);
+        settings
     }
 }
 

@@ -28,6 +28,7 @@ impl<B: Depacketizer> JitterBuffer<B> {
     /// Returns whether no frame is complete, and pops go on to wait for as many frames as the latest one did. Then no pop changes
     /// anything until a packet arrives, or the wait limits change. `false` says nothing.
     #[inline(always)]
+    #[must_use]
     pub fn is_idle(&self) -> bool {
         self.buffer.ready() == 0
             && self.no_media_numbers.is_empty()

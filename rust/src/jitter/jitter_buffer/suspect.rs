@@ -17,11 +17,13 @@ pub struct BeforeRestart {
 
 impl<B: Depacketizer> JitterBuffer<B> {
     /// Returns whether a suspect packet is kept.
+    #[must_use]
     pub fn has_suspect(&self) -> bool {
         self.kept.is_some()
     }
 
     /// Returns whether the suspect packet that is kept has this sequence number and this RTP time.
+    #[must_use]
     pub fn keeps_suspect(&self, low: u16, time: u32) -> bool {
         match &self.kept {
             Some(kept) => kept.header.sequence_number() == low && kept.header.timestamp() == time,

@@ -15,6 +15,7 @@ impl<B: Depacketizer> JitterBuffer<B> {
     /// `Some(Ok(()))`, `unit` holds the unit; earlier contents are replaced. In every other case the contents are unspecified.
     /// See [`crate::buffer::DepacketizingBuffer::pop_unit`].
     #[inline(always)]
+    #[must_use]
     pub fn pop_unit(
         &mut self,
         now: Ticks,

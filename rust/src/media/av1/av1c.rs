@@ -16,6 +16,7 @@ fn bit_if(set: bool, bit: u8) -> u8 {
 
 /// The four bytes before the sequence header OBU: marker and version, profile and level, tier to chroma position, and no initial
 /// presentation delay.
+#[must_use]
 pub fn av1c_front(header: &Av1SequenceHeader) -> [u8; AV1C_FRONT_LEN] {
     let color = &header.color;
     let point = &header.operating_point;

@@ -103,6 +103,7 @@ pub struct Av1Obus<'a> {
 
 impl<'a> Av1Obus<'a> {
     /// The OBUs in these bytes.
+    #[must_use]
     pub fn new(unit: &'a [u8]) -> Av1Obus<'a> {
         Av1Obus { bytes: unit }
     }

@@ -84,6 +84,7 @@ impl Av1FrameStart {
     }
 
     /// Whether it is a keyframe that is shown at once.
+    #[must_use]
     pub fn is_shown_keyframe(&self) -> bool {
         self.keyframe && self.shown && !self.existing
     }
@@ -164,6 +165,7 @@ impl Av1TemporalUnit {
 
     /// Whether a coded video sequence starts with this unit (section 7.5), so that decoding can start here: a sequence header
     /// precedes its first frame header, and that frame is a keyframe of temporal layer 0 that is shown at once.
+    #[must_use]
     pub fn begins_sequence(&self) -> bool {
         match self.frame {
             Some(frame) => {

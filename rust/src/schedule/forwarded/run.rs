@@ -74,6 +74,7 @@ pub fn run_forwarded<P: Packetizer, D: Depacketizer>(
 }
 
 /// Returns the results before any step. Does not allocate.
+#[must_use]
 pub fn no_results() -> ForwardedRun {
     ForwardedRun {
         run: DatagramRun {

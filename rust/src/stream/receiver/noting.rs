@@ -27,11 +27,13 @@ impl<B: Depacketizer> Receiver<B> {
 
     /// Returns the extended number of the packet of the stream whose sequence number is `low`: at most 32,768 above or 32,767 below the
     /// highest number received so far. Before the first packet it is `low`.
+    #[must_use]
     pub fn extended_number(&self, low: u16) -> u64 {
         near(self.packets.greatest(), low)
     }
 
     /// Returns how many restarts of the sender were found, modulo 2^64.
+    #[must_use]
     pub fn restarts(&self) -> u64 {
         self.packets.counters().restarts
     }

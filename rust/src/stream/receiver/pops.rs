@@ -25,6 +25,7 @@ impl<B: Depacketizer> Receiver<B> {
     /// # Errors
     ///
     /// Out of memory: the frame stays, and the next pop tries it again.
+    #[must_use]
     pub fn pop(&mut self, now: Ticks) -> Option<Result<Popped, AllocError>> {
         let answer = self.pop_gated(now);
         let large = self.bound.is_large(&answer);

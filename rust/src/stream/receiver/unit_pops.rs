@@ -18,6 +18,7 @@ impl<B: Depacketizer> Receiver<B> {
     /// Does the same as [`Receiver::pop`], and writes the unit to memory that can be used again, also a unit that is too large.
     /// See [`crate::jitter::jitter_buffer::JitterBuffer::pop_unit`].
     #[inline(always)]
+    #[must_use]
     pub fn pop_unit(
         &mut self,
         now: Ticks,

@@ -45,24 +45,26 @@ fn session(nack: bool) -> Session {
         octet_align: false,
     };
     let mut settings = SessionSettings::live();
-    settings.formats.push(Format {
-        nack,
-        pli: true,
-        ..Format::new(VP8, spec)
+    settings.formats.push({
+        let mut format = Format::new(VP8, spec);
+        format.nack = nack;
+        format.pli = true;
+        format
     });
     let audio = CodecSpec {
         codec: Codec::Opus,
         clock_rate: Frequency::FORTY_EIGHT_KHZ,
         octet_align: false,
     };
-    settings.formats.push(Format {
-        red: Some(RedSettings {
+    settings.formats.push({
+        let mut format = Format::new(OPUS, audio);
+        format.red = Some(RedSettings {
             payload_type: RED,
             step: 960,
             retransmission: None,
-        }),
-        nack,
-        ..Format::new(OPUS, audio)
+        });
+        format.nack = nack;
+        format
     });
     settings.no_media.push(PADDING);
     settings.limit = 65_536;

@@ -96,10 +96,11 @@ fn session(kind: &str, streams: u32) -> Session {
     let mut settings = SessionSettings::live();
     settings.max_streams = streams as usize + 1;
     let payload_type = if is_video { VP8 } else { OPUS };
-    settings.formats.push(Format {
-        nack: requests,
-        pli: requests,
-        ..Format::new(payload_type, spec(is_video))
+    settings.formats.push({
+        let mut format = Format::new(payload_type, spec(is_video));
+        format.nack = requests;
+        format.pli = requests;
+        format
     });
     settings.feedback = requests.then(|| FeedbackSettings::live(1, b"me@host".to_vec()));
     Session::new(settings).expect("settings that can be met")

@@ -91,10 +91,12 @@ fn event_of(fields: &[&str]) -> Option<Event> {
 /// A setting of a receiver.
 fn setting_of(fields: &[&str]) -> Option<Setting> {
     match *fields {
-        ["wait", hold_back, start, max_wait] => Some(Setting::Wait(WaitLimits {
-            hold_back: optional(hold_back)?,
-            start: number(start)?,
-            max_wait: optional(max_wait)?,
+        ["wait", hold_back, start, max_wait] => Some(Setting::Wait({
+            let mut limits = WaitLimits::live();
+            limits.hold_back = optional(hold_back)?;
+            limits.start = number(start)?;
+            limits.max_wait = optional(max_wait)?;
+            limits
         })),
         ["limit", packets] => Some(Setting::Limit(number(packets)?)),
         ["windows", forward, backward] => Some(Setting::Windows {

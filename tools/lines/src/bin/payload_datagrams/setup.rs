@@ -41,22 +41,23 @@ impl Draft {
     pub fn new(stream: Stream) -> Draft {
         Draft {
             spec: stream.spec,
-            settings: ReceiverSettings {
-                payload_type: stream.payload_type,
-                no_media: Vec::new(),
-                ssrc: None,
-                red: None,
-                retransmission: None,
-                extension_ids: ExtensionIds::default(),
-                clock_rate: stream.spec.clock_rate,
-                tick_rate: Frequency::make(1_000).expect("it is above 0"),
-                wait_limits: WaitLimits::file(),
-                limit: 4_096,
-                forward: 3_000,
-                backward: 1_000,
-                from_keyframe: FromKeyframe::Mark,
-                max_unit: None,
-                dependency_descriptor: None,
+            settings: {
+                let mut settings =
+                    ReceiverSettings::live_audio(stream.payload_type, stream.spec.clock_rate);
+                settings.no_media = Vec::new();
+                settings.ssrc = None;
+                settings.red = None;
+                settings.retransmission = None;
+                settings.extension_ids = ExtensionIds::default();
+                settings.tick_rate = Frequency::make(1_000).expect("it is above 0");
+                settings.wait_limits = WaitLimits::file();
+                settings.limit = 4_096;
+                settings.forward = 3_000;
+                settings.backward = 1_000;
+                settings.from_keyframe = FromKeyframe::Mark;
+                settings.max_unit = None;
+                settings.dependency_descriptor = None;
+                settings
             },
         }
     }
