@@ -1,0 +1,30 @@
+-- The theorem, for a stream that a session has, or had until it ended.
+use Rattle.std.proofs.Common.{◌≡◌, ◌∙◌, sym, ap, subst, ℕ, List, Bool}
+use Rattle.codec_payload_buffer_runs.specs.Schedule.{Answer}
+use Rattle.codec_payload_datagram_runs.specs.Releases.{AreOfOneStream}
+use Rattle.codec_payload_receiver.specs.Sessions.{Session as Receiver}
+use Rattle.codec_payload_session.specs.Ports.{Session, new_session}
+use Rattle.codec_payload_session_formats.specs.declared.formats.Format.{Format}
+use Rattle.codec_payload_session_formats.specs.declared.formats.SessionSettings.{SessionSettings}
+use Rattle.codec_payload_session_runs.proofs.ReachedLemmas.{runs_split}
+use Rattle.codec_payload_session_runs.specs.Lives.{IsAlone, ReceiverCall, events_of, shown_of, waits_for}
+use Rattle.codec_payload_session_runs.specs.SessionRuns.{Call, Runs}
+use Rattle.codec_payload_session_units.specs.OneSender.{IsOneSenders, answers_by}
+use Rattle.codec_payload_session_units.specs.StreamUnits.{KeepsPromises, StreamsReleaseUnits, answered, units_told}
+use Rattle.codec_payload_session_units.proofs.BeginLemmas.{HasBegun, has_begun}
+use Rattle.codec_payload_session_units.proofs.ShownLemmas.{shown_answers}
+use Rattle.codec_payload_session_units.proofs.TellLemmas.{projects_typed, run_told}
+use Rattle.codec_payload_session_units.proofs.UnitLemmas.{keeps_all}
+
+pub release_units : StreamsReleaseUnits
+release_units settings calls s run ssrc f announced r alone o =
+    let own : List ReceiverCall = alone.own in
+    let q : Receiver = alone.fresh.receiver in
+    let split = runs_split alone.before alone.during (new_session settings) s (subst (λ (cs : List Call). Runs cs (new_session settings) s) alone.whole run) in
+    let told : answered (answers_by own) ≡ units_told (events_of ssrc f.payload_type alone.during) =
+    sym (shown_answers own) ∙ (ap answers_by alone.shows ∙ run_told ssrc f.payload_type alone.during split.0 s split.2) in
+    let b : HasBegun settings f o.sender q = has_begun settings alone.reached.settings ssrc f o.sender alone.fresh alone.pairs_alone o.sender_for alone.begins in
+    let typed = projects_typed ssrc f (waits_for settings ssrc f) alone.during own alone.projects in
+    subst (λ (answers : List Answer). KeepsPromises o answers own q r) told
+    (subst (λ (gave : List ReceiverCall). (x : IsOneSenders settings ssrc f gave) → AreOfOneStream x.sender b.given b.depacketizer → KeepsPromises x (answered (answers_by own)) own q r) alone.shows
+    (λ x one. keeps_all settings ssrc f own x q r b.given b.depacketizer b.is one typed alone.alone) o b.one_stream)
