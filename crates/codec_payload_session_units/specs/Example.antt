@@ -19,6 +19,7 @@ use Rattle.codec_payload_session_stream.specs.declared.events.Event.TheVariants 
 use Rattle.codec_payload_session_runs.specs.Lives.{shown_of}
 use Rattle.codec_payload_session_runs.specs.SessionRuns.{Call}
 use Rattle.codec_payload_session_runs.specs.Tightness.{datagram_call, poll_call}
+use Rattle.codec_payload_session_runs.specs.declared.run.SessionStep.TheVariants as steps
 use Rattle.codec_payload_session_runs.specs.declared.run.StepAnswer.{StepAnswer}
 use Rattle.codec_payload_session_runs.specs.declared.run.StepAnswer.TheVariants as answers
 use Rattle.codec_payload_session_units.specs.OneSender.{IsOneSenders, SendsAll, answers_by}
@@ -61,8 +62,9 @@ unit_call now ssrc r = poll_call (at now) (Some (events.Unit ssrc 111 (Some 0) t
 abbrev pub calls_made : Sent → Release → Release → Release → Release → List Call
 calls_made sent r1 r2 r3 q1 =
     datagram_call (at 20) None sent.first (taken 7) ∷ datagram_call (at 21) None sent.other_first (taken 9) ∷ datagram_call (at 60) None sent.third (taken 7)
-    ∷ datagram_call (at 61) None sent.other_third (taken 9) ∷ poll_call (at 62) (Some (events.Begun 7 111)) ∷ poll_call (at 62) (Some (events.Begun 9 111)) ∷ unit_call 62 7 r1 ∷ unit_call 62 9 q1
-    ∷ poll_call (at 62) None ∷ datagram_call (at 80) None sent.again (taken 7) ∷ unit_call 80 7 r2 ∷ unit_call 80 7 r3 ∷ poll_call (at 80) None ∷ []
+    ∷ datagram_call (at 61) None sent.other_third (taken 9) ∷ poll_call (at 62) (Some (events.Begun 7 111)) ∷ unit_call 62 7 r1 ∷ poll_call (at 62) (Some (events.Begun 9 111)) ∷ unit_call 62 9 q1
+    ∷ poll_call (at 62) None ∷ record { step = steps.AddPair 7 8; answer = answers.PairAdded (Ok tt) } ∷ datagram_call (at 80) None sent.again (taken 7) ∷ unit_call 80 7 r2 ∷ unit_call 80 7 r3
+    ∷ poll_call (at 80) None ∷ []
 
 -- what a stream was given is its sender's, under these indices
 pub record IsSendersAt (settings : SessionSettings) (ssrc : ℕ) (calls : List Call) (sender : Sending) (indices : List ℕ) (units : ℕ) : Type 0 where
