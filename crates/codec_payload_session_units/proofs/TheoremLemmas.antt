@@ -1,16 +1,19 @@
 -- The theorem, for a stream that a session has, or had until it ended.
-use Rattle.std.proofs.Common.{◌≡◌, ◌∙◌, sym, ap, subst, ℕ, List, Bool}
+use Rattle.std.proofs.Common.{◌≡◌, ◌∙◌, refl, sym, ap, subst, ℕ, List, [], ◌∷◌, ◌++◌, Bool}
 use Rattle.codec_payload_buffer_runs.specs.Schedule.{Answer}
 use Rattle.codec_payload_datagram_runs.specs.Releases.{AreOfOneStream}
 use Rattle.codec_payload_receiver.specs.Sessions.{Session as Receiver}
 use Rattle.codec_payload_session.specs.Ports.{Session, new_session}
 use Rattle.codec_payload_session_formats.specs.declared.formats.Format.{Format}
 use Rattle.codec_payload_session_formats.specs.declared.formats.SessionSettings.{SessionSettings}
-use Rattle.codec_payload_session_runs.proofs.ReachedLemmas.{runs_split}
-use Rattle.codec_payload_session_runs.specs.Lives.{IsAlone, ReceiverCall, events_of, shown_of, waits_for}
+use Rattle.codec_payload_session_stream.specs.declared.stream.StreamState.{StreamState}
+use Rattle.codec_payload_session_stream.specs.declared.stream.Ending.{Ending}
+use Rattle.codec_payload_base.specs.declared.wire.Ticks.{Ticks}
+use Rattle.codec_payload_session_runs.proofs.ReachedLemmas.{each_ended, reached, runs_split}
+use Rattle.codec_payload_session_runs.specs.Lives.{EachIsAlone, EndedAlone, IsAlone, ReceiverCall, ending_poll, events_of, shown_of, waits_for}
 use Rattle.codec_payload_session_runs.specs.SessionRuns.{Call, Runs}
 use Rattle.codec_payload_session_units.specs.OneSender.{IsOneSenders, answers_by}
-use Rattle.codec_payload_session_units.specs.StreamUnits.{KeepsPromises, StreamsReleaseUnits, answered, units_told}
+use Rattle.codec_payload_session_units.specs.StreamUnits.{AllStreamsReleaseUnits, EachReleasesUnits, EndedStreamsReleaseUnits, KeepsPromises, StreamsReleaseUnits, answered, units_told}
 use Rattle.codec_payload_session_units.proofs.BeginLemmas.{HasBegun, has_begun}
 use Rattle.codec_payload_session_units.proofs.ShownLemmas.{shown_answers}
 use Rattle.codec_payload_session_units.proofs.TellLemmas.{projects_typed, run_told}
@@ -28,3 +31,16 @@ release_units settings calls s run ssrc f announced r alone o =
     subst (λ (answers : List Answer). KeepsPromises o answers own q r) told
     (subst (λ (gave : List ReceiverCall). (x : IsOneSenders settings ssrc f gave) → AreOfOneStream x.sender b.given b.depacketizer → KeepsPromises x (answered (answers_by own)) own q r) alone.shows
     (λ x one. keeps_all settings ssrc f own x q r b.given b.depacketizer b.is one typed alone.alone) o b.one_stream)
+
+each_of : (settings : SessionSettings) (calls : List Call) (s : Session) → Runs calls (new_session settings) s → (ss : List StreamState) → EachIsAlone settings calls ss → EachReleasesUnits settings calls ss
+each_of settings calls s run [] each = tt
+each_of settings calls s run (x ∷ ss) each = ((each.0, release_units settings calls s run x.ssrc x.format x.announced x.receiver each.0), each_of settings calls s run ss each.1)
+
+pub each_releases : AllStreamsReleaseUnits
+each_releases settings calls s run = each_of settings calls s run s.port.streams (reached settings calls s run).alone
+
+pub ended_releases : EndedStreamsReleaseUnits
+ended_releases settings before after now ssrc payload_type why s run =
+    let ended : EndedAlone settings before now ssrc payload_type why = each_ended settings (before ++ ending_poll now ssrc payload_type why ∷ after) s run before after now ssrc payload_type why refl in
+    let split = runs_split before (ending_poll now ssrc payload_type why ∷ after) (new_session settings) s run in
+    (ended, release_units settings before split.0 split.1 ssrc ended.format true ended.receiver ended.alone)

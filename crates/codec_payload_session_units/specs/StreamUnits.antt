@@ -1,5 +1,5 @@
 -- The units that events of a session have of a stream, if what the stream was given is one sender's.
-use Rattle.std.specs.Prelude.{◌≡◌, ◌⊎◌, ℕ, Bool, true, false, List, [], ◌∷◌, Option, Some, None, Result, Ok, Err, length, map, slice_get}
+use Rattle.std.specs.Prelude.{◌≡◌, ◌⊎◌, ℕ, Bool, true, false, List, [], ◌∷◌, ◌++◌, Option, Some, None, Result, Ok, Err, length, map, slice_get}
 use Rattle.std.specs.declared.alloc.AllocError.{AllocError}
 use Rattle.codec_payload_base.specs.declared.error.PacketError.TheVariants as faults
 use Rattle.codec_payload_buffer.specs.Steps.{arrived}
@@ -12,6 +12,7 @@ use Rattle.codec_payload_buffer_runs.specs.RunValues.{values_of_run}
 use Rattle.codec_payload_buffer_runs.specs.Schedule.{Answer}
 use Rattle.codec_payload_buffer_runs.specs.SentStream.{AllEndWithTail, SentUnit, packets_of, units_of_run}
 use Rattle.codec_payload_codec.specs.Packetizers.{is_video, may_split, payloads_by}
+use Rattle.codec_payload_base.specs.declared.wire.Ticks.{Ticks}
 use Rattle.codec_payload_base.specs.declared.wire.extension.ExtensionValues.{ExtensionValues}
 use Rattle.codec_payload_datagram_runs.specs.Releases.{AreDatagrams, AreDeliveredBefore, IsDelivery, sending_steps}
 use Rattle.codec_payload_datagram_runs.specs.WireLogs.{AllInTime, AnswersTurn}
@@ -27,7 +28,9 @@ use Rattle.codec_payload_session_formats.specs.declared.formats.Format.{Format}
 use Rattle.codec_payload_session_formats.specs.declared.formats.SessionSettings.{SessionSettings}
 use Rattle.codec_payload_session_stream.specs.Units.{Event}
 use Rattle.codec_payload_session_stream.specs.declared.events.Event.TheVariants as events
-use Rattle.codec_payload_session_runs.specs.Lives.{IsAlone, ReceiverCall, events_of, shown_of}
+use Rattle.codec_payload_session_stream.specs.declared.stream.Ending.{Ending}
+use Rattle.codec_payload_session_stream.specs.declared.stream.StreamState.{StreamState}
+use Rattle.codec_payload_session_runs.specs.Lives.{EndedAlone, IsAlone, ReceiverCall, ending_poll, events_of, shown_of}
 use Rattle.codec_payload_session_runs.specs.SessionRuns.{Call, Runs}
 use Rattle.codec_payload_session_units.specs.OneSender.{IsOneSenders, answers_by, effective, sends_of, steps_by}
 
@@ -149,9 +152,25 @@ UnitsAreSenders settings calls ssrc f announced r alone =
     (o : IsOneSenders settings ssrc f (shown_of ssrc f.payload_type alone.during))
     → KeepsPromises o (units_told (events_of ssrc f.payload_type alone.during)) alone.own alone.fresh.receiver r
 
--- at each moment of a run of a new session: each stream that it has, and each that ended with an event, was a receiver alone, by
--- `StreamsAreAlone` and `EachEndedAlone` of the crate below
+-- at each moment of a run of a new session, for any account of a stream as a receiver alone
 abbrev pub StreamsReleaseUnits : Type 0
 StreamsReleaseUnits =
     (settings : SessionSettings) (calls : List Call) (s : Session) → Runs calls (new_session settings) s → (ssrc : ℕ) (f : Format) (announced : Bool) (r : Receiver)
     → (alone : IsAlone settings calls ssrc f announced r) → UnitsAreSenders settings calls ssrc f announced r alone
+
+-- each of these streams was a receiver alone, whose units are its sender's
+abbrev pub EachReleasesUnits : SessionSettings → List Call → List StreamState → Type 0
+EachReleasesUnits settings calls [] = Unit {0}
+EachReleasesUnits settings calls (s ∷ ss) =
+    ((alone : IsAlone settings calls s.ssrc s.format s.announced s.receiver) × UnitsAreSenders settings calls s.ssrc s.format s.announced s.receiver alone) × EachReleasesUnits settings calls ss
+
+-- the streams that a session has at a moment of a run
+abbrev pub AllStreamsReleaseUnits : Type 0
+AllStreamsReleaseUnits = (settings : SessionSettings) (calls : List Call) (s : Session) → Runs calls (new_session settings) s → EachReleasesUnits settings calls s.port.streams
+
+-- a stream that ended with an event: up to the poll of that event, which had no unit
+abbrev pub EndedStreamsReleaseUnits : Type 0
+EndedStreamsReleaseUnits =
+    (settings : SessionSettings) (before after : List Call) (now : Ticks) (ssrc payload_type : ℕ) (why : Ending) (s : Session)
+    → Runs (before ++ ending_poll now ssrc payload_type why ∷ after) (new_session settings) s
+    → (ended : EndedAlone settings before now ssrc payload_type why) × UnitsAreSenders settings before ssrc ended.format true ended.receiver ended.alone

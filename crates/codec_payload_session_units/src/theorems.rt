@@ -1,7 +1,7 @@
 //! Theorems on the units of a session's streams. These functions exist for their proofs and do nothing.
 
 ghost use Rattle.codec_payload_session_units.specs.Example.{StreamsCanBeMet};
-ghost use Rattle.codec_payload_session_units.specs.StreamUnits.{StreamsReleaseUnits};
+ghost use Rattle.codec_payload_session_units.specs.StreamUnits.{AllStreamsReleaseUnits, EndedStreamsReleaseUnits, StreamsReleaseUnits};
 
 /// The units of a stream of a session are the units of its sender's samples, if each datagram that the stream took is one of that
 /// sender's, or a retransmission of one, within the windows. The events have the units in order, each at most once and complete. None
@@ -9,7 +9,11 @@ ghost use Rattle.codec_payload_session_units.specs.StreamUnits.{StreamsReleaseUn
 ///
 /// [`run_new_session`]: codec_payload_session_runs::run::run_new_session
 pub fn streams_release_units()
-    ensures { StreamsReleaseUnits }
+    ensures units { StreamsReleaseUnits }
+    // So each stream that a session has has its sender's units.
+    ensures each { AllStreamsReleaseUnits }
+    // And each stream that ended with an event.
+    ensures ended { EndedStreamsReleaseUnits }
 {}
 
 /// The premises can be met by two streams of one run: of three datagrams of each sender the second is lost, and one stream gets its
