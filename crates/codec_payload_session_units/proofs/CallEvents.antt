@@ -33,6 +33,7 @@ use Rattle.codec_payload_receiver.specs.RedOnce.{HasNoBlock}
 use Rattle.codec_payload_receiver.specs.Sessions.{Session as Receiver, ended}
 use Rattle.codec_payload_receiver.specs.declared.pops.Popped.{Popped}
 use Rattle.codec_payload_receiver.specs.declared.receiver.ReceiveError.{ReceiveError}
+use Rattle.codec_payload_rtp.specs.declared.values.ExtensionIds.{ExtensionIds}
 use Rattle.codec_payload_sending.specs.declared.sender.Outgoing.{Outgoing}
 use Rattle.codec_payload_sending_history.specs.declared.retransmission.RetransmissionStream.{RetransmissionStream}
 use Rattle.codec_payload_session_stream.specs.Streams.{is_no_memory}
@@ -76,8 +77,8 @@ met_same stream packets later s mid answers t buffer at_end ids rest = record {
   events = rest.events;
   meets = subst (λ (b : State). Meets stream.clock_rate packets rest.events b answers t.packets.buffer) buffer rest.meets;
   brings = subst (λ (b : Bool). Brings b later rest.events) at_end rest.brings;
-  values = subst (λ i. AllHaveValues i stream packets rest.events) ids rest.values;
-  logs = λ w is. subst (λ i. HasLogOf (IsRead i stream packets) packets s.packets.ended later w answers t.packets.buffer) ids
+  values = subst (λ (i : ExtensionIds). AllHaveValues i stream packets rest.events) ids rest.values;
+  logs = λ w is. subst (λ (i : ExtensionIds). HasLogOf (IsRead i stream packets) packets s.packets.ended later w answers t.packets.buffer) ids
       (subst (λ (b : Bool). HasLogOf (IsRead mid.stream.ids stream packets) packets b later w answers t.packets.buffer) at_end (rest.logs w (is ∙ sym buffer)));
 }
 

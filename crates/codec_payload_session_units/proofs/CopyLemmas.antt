@@ -161,7 +161,8 @@ others_or_known kinds again next stream q datagram bytes apart none reads is =
       | inl not_known ↦
           let others = of_others kinds stream.ssrc (record { header = header_again again next stream q; payload = to_be_bytes w16 (q.number % 2 ^ 16) ++ q.payload; padding = 0 })
           not_known none (other_ssrc stream.ssrc again.ssrc apart.0) in
-          inl (rw (no_rtcp, there) others)
+          let all : datagram_at kinds (Some stream.ssrc) bytes ≡ OfOthers = rw (no_rtcp, there) others in
+          inl all
     ]
 
 -- so the receiver knows one that it does not say to be of others

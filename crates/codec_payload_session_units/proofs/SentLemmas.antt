@@ -83,7 +83,7 @@ pub record Sent (samples : List Sample) (entries : List SentSample) (datagrams :
   pub wire : Wire
   pub datagrams_are : wire.datagrams ≡ datagrams
   pub entries_are : wire.sends ≡ entries
-  pub sends_from : SendsFrom samples (sends_of samples) sender receiver wire
+  pub packets_from : SendsFrom samples (sends_of samples) sender receiver wire
 
 pub all_sent : (samples : List Sample) (entries : List SentSample) (datagrams : List (List ℕ)) (sender : Sending) (receiver : Receiver) (settings : Settings) (depacketizer : DepacketizerState)
     → session_by settings depacketizer ≡ Ok receiver → AreOfOneStream sender settings depacketizer → length datagrams < 2 ^ 63 → SendsAll samples sender entries datagrams
@@ -92,7 +92,7 @@ all_sent samples entries datagrams sender receiver settings depacketizer new one
   wire = made.after;
   datagrams_are = made.sent;
   entries_are = made.sends;
-  sends_from = from;
+  packets_from = from;
 }
   where
     made : SentRun samples 0 samples entries datagrams (begins sender receiver)

@@ -134,7 +134,9 @@ pair_typed : (ssrc : ℕ) (f : Format) (w : FollowedWaits) (step : SessionStep) 
 pair_typed ssrc f w step answer given None made = tt
 pair_typed ssrc f w (calls.Receive now micros datagram) answer given (Some r) made = made.1.1
 pair_typed ssrc f w (calls.AddPair other again) answer given (Some r) made = made.1.1
-pair_typed ssrc f w (calls.RemovePair other) answer given (Some r) made = absurd (cc)
+pair_typed ssrc f w (calls.RemovePair other) answer given (Some r) made =
+    let none : Some r ≡ None = made.1 in
+    absurd (cc)
 pair_typed ssrc f w (calls.Poll now) answer given (Some r) made = absurd made
 pair_typed ssrc f w (calls.End now other) answer given (Some r) made = absurd made
 pair_typed ssrc f w (calls.Finish now) answer given (Some r) made = absurd made

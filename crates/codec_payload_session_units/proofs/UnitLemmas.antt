@@ -129,7 +129,7 @@ module _ (settings : SessionSettings) (ssrc : ℕ) (f : Format) (own : List Rece
   sender_sent = all_sent o.samples o.entries o.datagrams o.sender r given depacketizer is.new one_stream o.few o.sends
 
   sent : SentFrom r.packets.buffer o.samples (sends_of o.samples) o.sender sender_sent.wire first
-  sent = sender_sent.sends_from first (first_small given.forward given.backward number ks low within) (first_low given.forward given.backward o.sender.stream.number ks within)
+  sent = sender_sent.packets_from first (first_small given.forward given.backward number ks low within) (first_low given.forward given.backward o.sender.stream.number ks within)
 
   reads : AreDatagrams o.sender.stream sent.all o.datagrams
   reads = subst (AreDatagrams o.sender.stream sent.all) sender_sent.datagrams_are sent.reads
