@@ -6,6 +6,7 @@ use Rattle.codec_payload_base.specs.declared.wire.Codec.TheVariants as codecs
 use Rattle.codec_payload_buffer_runs.specs.ReportedIds.{read_by}
 use Rattle.codec_payload_codec.specs.Depacketizers.{Av1Depacketizing, AmrWbDepacketizing, ComfortNoiseDepacketizing, DepacketizerState, G711Depacketizing, NullDepacketizing, OpusDepacketizing, TeleDepacketizing, Vp8Depacketizing, Vp9Depacketizing, configured_depacketizer, depacketizer_state_for, unused_vp8}
 use Rattle.codec_payload_vp9.specs.Vp9Fields.{unused}
+use Rattle.codec_payload_datagrams.specs.declared.kinds.Retransmission.{Retransmission}
 use Rattle.codec_payload_datagram_runs.specs.Releases.{AreOfOneStream}
 use Rattle.codec_payload_keyframes.specs.UnitGates.{drops_units}
 use Rattle.codec_payload_datagram_runs.proofs.NewReceivers.{IsBegun, new_is_begun, passed}
@@ -47,13 +48,14 @@ nothing_read codecs.Red octet rate d is = absurd (cc)
 nothing_read codecs.Unknown octet rate d is = absurd (cc)
 
 -- the pairs of the settings have the payload type of the format
+one_type : (b : Bool) (payload_type again : ℕ) (rest : Option Retransmission) → HasType (Some payload_type) rest
+    → HasType (Some payload_type) (cond b (Some (record { ssrc = again; payload_type = payload_type })) rest)
+one_type true payload_type again rest is = refl
+one_type false payload_type again rest is = is
+
 listed_type : (ssrc payload_type : ℕ) (pairs : List SsrcPair) → HasType (Some payload_type) (retransmission_of ssrc payload_type pairs)
 listed_type ssrc payload_type [] = tt
-listed_type ssrc payload_type (p ∷ ps) = by_ssrc (eqb p.ssrc ssrc)
-  where
-    by_ssrc : (b : Bool) → HasType (Some payload_type) (cond b (Some (record { ssrc = p.retransmission; payload_type = payload_type })) (retransmission_of ssrc payload_type ps))
-    by_ssrc true = refl
-    by_ssrc false = listed_type ssrc payload_type ps
+listed_type ssrc payload_type (p ∷ ps) = one_type (eqb p.ssrc ssrc) payload_type p.retransmission (retransmission_of ssrc payload_type ps) (listed_type ssrc payload_type ps)
 
 settings_type : (ssrc : ℕ) (own : Option ℕ) (pairs : List SsrcPair) → HasType own (retransmission_for ssrc own pairs)
 settings_type ssrc None pairs = tt

@@ -85,22 +85,22 @@ met_same stream packets later s mid answers t buffer at_end ids rest = record {
 module _ (own : Option ℕ) (again : Option RetransmissionStream) (stream : Outgoing) (types : (stream.payload_type < 64) ⊎ (95 < stream.payload_type)) (other : own ≢ Some stream.payload_type)
     (apart : AreApartFrom stream.ssrc again) (first : ℕ) (packets : List Packet) (datagrams : List (List ℕ)) (are : AreDatagrams stream packets datagrams) (numbered : AreNumbered first packets)
     (time_of : ℕ → ℕ) where
-  abbrev rate : ℕ
+  abbrev pub rate : ℕ
   rate = stream.clock_rate
 
   -- the calls, from this receiver on
-  record IsGoing (later : List ReceiverCall) (ks : List ℕ) (s t : Receiver) : Type 0 where
-    is : IsStream own stream s
-    numbers : AllNumbered first s.packets.numbering ks
-    timed : AllTimed time_of first packets ks
-    timely : StayTimely rate first packets s.packets.first ks
-    times : AreTimesOf time_of s.packets.noted
-    copies : AreCopies again datagrams (effective later) ks
-    memory : FoundMemory (answers_by later)
-    typed : AllTyped own later
-    run : RunsAlone later s t
+  pub record IsGoing (later : List ReceiverCall) (ks : List ℕ) (s t : Receiver) : Type 0 where
+    pub is : IsStream own stream s
+    pub numbers : AllNumbered first s.packets.numbering ks
+    pub timed : AllTimed time_of first packets ks
+    pub timely : StayTimely rate first packets s.packets.first ks
+    pub times : AreTimesOf time_of s.packets.noted
+    pub copies : AreCopies again datagrams (effective later) ks
+    pub memory : FoundMemory (answers_by later)
+    pub typed : AllTyped own later
+    pub run : RunsAlone later s t
 
-  abbrev Met : List ReceiverCall → List ℕ → Receiver → Receiver → Type 0
+  abbrev pub Met : List ReceiverCall → List ℕ → Receiver → Receiver → Type 0
   Met later ks s t = IsMetBy stream packets (steps_by (effective later) ks) s (answers_by later) t
 
   -- another state of the receiver, of which the calls do not speak

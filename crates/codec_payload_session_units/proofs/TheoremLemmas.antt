@@ -1,5 +1,5 @@
 -- The theorem, for a stream that a session has, or had until it ended.
-use Rattle.std.proofs.Common.{◌≡◌, ◌∙◌, refl, sym, ap, subst, ℕ, List, [], ◌∷◌, ◌++◌, Bool}
+use Rattle.std.proofs.Common.{◌≡◌, ◌∙◌, refl, sym, ap, subst, ℕ, List, [], ◌∷◌, ◌++◌, Bool, true}
 use Rattle.codec_payload_buffer_runs.specs.Schedule.{Answer}
 use Rattle.codec_payload_datagram_runs.specs.Releases.{AreOfOneStream}
 use Rattle.codec_payload_receiver.specs.Sessions.{Session as Receiver}
