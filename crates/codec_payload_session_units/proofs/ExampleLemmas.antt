@@ -21,7 +21,7 @@ for_first settings mode = record {
   not_rtcp = inr (lit< tt);
   ssrc_is = refl;
   no_red = refl;
-  other_type = λ e. absurd (cc);
+  other_type = λ e. let same : 112 ≡ 111 = same_Some 112 111 e in absurd (omega (arith, same));
   drops_none = ap drops_units mode;
 }
 
@@ -34,7 +34,7 @@ for_other settings mode = record {
   not_rtcp = inr (lit< tt);
   ssrc_is = refl;
   no_red = refl;
-  other_type = λ e. absurd (cc);
+  other_type = λ e. let same : 112 ≡ 111 = same_Some 112 111 e in absurd (omega (arith, same));
   drops_none = ap drops_units mode;
 }
 
@@ -50,7 +50,7 @@ first_met settings mode sent are r1 r2 r3 q1 = record {
     sends = are.sends;
     few = lit< tt;
     sender_for = for_first settings mode;
-    apart = (λ e. absurd (cc), inr (lit< tt));
+    apart = (λ e. let same : 8 ≡ 7 = e in absurd (omega (arith, same)), inr (lit< tt));
     readable = (refl, (refl, (refl, tt)));
     indices = 0 ∷ 2 ∷ 1 ∷ [];
     copies = (

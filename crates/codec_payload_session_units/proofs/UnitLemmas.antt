@@ -225,7 +225,7 @@ module _ (settings : SessionSettings) (ssrc : ℕ) (f : Format) (own : List Rece
   meets : Meets rate (packets_of units) come.events r.packets.buffer (answers_by own) t.packets.buffer
   meets = subst (λ (ps : List Packet). Meets rate ps come.events r.packets.buffer (answers_by own) t.packets.buffer) whole.whole come.meets
 
-  releases_units : ReleasesUnits o (answered (answers_by own))
+  abbrev releases_units : ReleasesUnits o (answered (answers_by own))
   releases_units = record {
     units = units;
     canonical = units_sent.canonical;
