@@ -53,13 +53,8 @@ first_met settings mode sent are r1 r2 r3 q1 = record {
     apart = (λ e. let same : 8 ≡ 7 = e in absurd (omega (arith, same)), inr (lit< tt));
     readable = (refl, (refl, (refl, tt)));
     indices = 0 ∷ 2 ∷ 1 ∷ [];
-    copies = (
-      (sent.first.items, refl, inl refl),
-      (sent.third.items, refl, inl refl),
-      (sent.second.items, refl, inr (500, are.repeats, refl)),
-      refl,
-    );
-    memory = (λ e. absurd (cc), λ e. absurd (cc), λ e. absurd (cc), tt);
+    copies = ((sent.first.items, refl, inl refl), ((sent.third.items, refl, inl refl), ((sent.second.items, refl, inr (500, are.repeats, refl)), refl)));
+    memory = (λ e. absurd (cc), (λ e. absurd (cc), (λ e. absurd (cc), tt)));
     within = (lit< tt, (lit< tt, lit≤ tt, (lit< tt, lit≤ tt, tt)));
     timely = (λ l. absurd (omega (arith, l)), (λ l. absurd (omega (arith, l)), tt));
   };
@@ -83,7 +78,7 @@ other_met settings mode sent are r1 r2 r3 q1 = record {
     apart = tt;
     readable = (refl, (refl, (refl, tt)));
     indices = 0 ∷ 2 ∷ [];
-    copies = ((sent.other_first.items, refl, inl refl), (sent.other_third.items, refl, inl refl), refl);
+    copies = ((sent.other_first.items, refl, inl refl), ((sent.other_third.items, refl, inl refl), refl));
     memory = (λ e. absurd (cc), tt);
     within = (lit< tt, (lit< tt, lit≤ tt, tt));
     timely = (λ l. absurd (omega (arith, l)), tt);
