@@ -35,6 +35,7 @@ mod sort;
 pub mod stream;
 mod streams;
 mod telephone;
+mod tick_rate;
 mod times;
 mod transport;
 mod transports;

@@ -25,6 +25,8 @@ pub mod reports;
 mod seen_times;
 mod statistics;
 mod storing;
+#[doc(hidden)]
+pub mod tick_rate;
 mod unit_times;
 #[doc(hidden)]
 pub mod windows;
@@ -42,6 +44,9 @@ pub use receiver::{
 
 #[doc(inline)]
 pub use reports::{ReceptionReport, ReceptionStatistics};
+
+#[doc(inline)]
+pub use tick_rate::ticks_at;
 
 #[doc(inline)]
 pub use windows::Windows;

@@ -17,7 +17,7 @@ HOMES = {"bandwidth_pacer": {"pacer": "bandwidth", "resends": "bandwidth"}, "ban
          "bandwidth_estimate": {"arrivals": "bandwidth", "delays": "bandwidth", "losses": "bandwidth", "rate": "bandwidth"}, "bandwidth_estimator": {"estimator": "bandwidth"}, "bandwidth_path": {"departures": "bandwidth", "path": "bandwidth"},
          "numbers": {"noted_times": "jitter", "numbers": "jitter", "seen_times": "receiver", "statistics": "receiver", "windows": "receiver"},
          "datagrams": {"choice": "receiver", "kinds": "receiver", "parsed": "receiver"},
-         "session_formats": {"checks": "session", "formats": "session", "names": "session", "sort": "session"},
+         "session_formats": {"checks": "session", "formats": "session", "names": "session", "sort": "session", "tick_rate": "session"},
          "session_requests": {"late": "session", "named": "session", "requests": "session", "transports": "session"},
          "session_stream": {"arrival": "session", "changes": "session", "dues": "session", "events": "session", "pairs": "session", "renegotiation": "session", "reports": "session", "stream": "session", "telephone": "session", "times": "session", "trips": "session", "waking": "session"}}
 # Names of lower crates that are public for the crates above alone. In the one crate no user sees them.
@@ -34,6 +34,7 @@ WITHIN_CRATE = {
     ("session_formats", "names.rt"): "are_of_one note",
     ("session_formats", "checks.rt"): "fault",
     ("session_formats", "sort.rt"): "SortedPacket sort",
+    ("receiver", "tick_rate.rt"): "limits_at ticks_at_if",
     ("session_requests", "requests.rt"): "Feedback answer_if ask_keyframe begin has_requested hear original_number request_counts requests_due rest_time round_trip set_reported source_for take_due wait_by",
     ("session_requests", "named.rt"): "NamedReceiver begin finish inner pop_unit receive report set_retransmission set_wait_limits",
     ("session_requests", "late.rt"): "follow late_for limit_by",

@@ -5,3 +5,4 @@ pub mod checks;
 pub mod formats;
 pub mod names;
 pub mod sort;
+pub mod tick_rate;
