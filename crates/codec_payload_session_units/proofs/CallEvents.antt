@@ -1,8 +1,7 @@
 -- The calls of a stream's receiver, as events of its buffer. Wait limits and known retransmissions may change between them.
-use Rattle.std.proofs.Common.{◌≡◌, ◌≢◌, ◌∙◌, refl, sym, ap, subst, ℕ, ◌+◌, ◌-◌, ◌%◌, ◌^◌, ◌<◌, ◌⊎◌, List, [], ◌∷◌, ◌++◌, Bool, true, false, not, Option, Some, None, Result, Ok, Err, map, arith}
+use Rattle.std.proofs.Common.{◌≡◌, ◌≢◌, ◌∙◌, refl, sym, ap, subst, ℕ, ◌+◌, ◌%◌, ◌^◌, ◌<◌, ◌⊎◌, List, [], ◌∷◌, Bool, true, false, not, Option, Some, None, Result, map}
 use Rattle.std.specs.Prelude.{slice_get}
 use Rattle.std.specs.declared.alloc.AllocError.{AllocError}
-use Rattle.codec_payload_base.specs.declared.error.PacketError.TheVariants as faults
 use Rattle.codec_payload_base.specs.declared.wire.Ticks.{Ticks}
 use Rattle.codec_payload_buffer.specs.Held.{Held}
 use Rattle.codec_payload_buffer.specs.Steps.{State, arrived, pushed}
@@ -11,14 +10,12 @@ use Rattle.codec_payload_buffer_runs.specs.Log.{Stretch, Turn, begun, with_pushe
 use Rattle.codec_payload_buffer_runs.specs.Schedule.{Answer}
 use Rattle.codec_payload_codec.specs.Depacketizers.{is_built_in_depacketizer}
 use Rattle.codec_payload_datagrams.specs.Kinds.{Kinds}
-use Rattle.codec_payload_datagrams.specs.declared.kinds.Retransmission.{Retransmission}
 use Rattle.codec_payload_datagram_runs.proofs.EventLemmas.{AllHaveValues, AllTimed, Brings, IsRead, packet_at_index, time_at, turn_at, values_asked, values_with}
-use Rattle.codec_payload_datagram_runs.proofs.ReceivingLemmas.{AllNumbered, IsListening, IsPopped, finishes_as, pops_as}
+use Rattle.codec_payload_datagram_runs.proofs.ReceivingLemmas.{AllNumbered, IsPopped, finishes_as, pops_as}
 use Rattle.codec_payload_datagram_runs.proofs.TimelyLemmas.{StayTimely, time_in, timely_next, timely_now, untimely_is}
 use Rattle.codec_payload_datagram_runs.specs.Releases.{AreDatagrams}
 use Rattle.codec_payload_datagram_runs.specs.WireRuns.{Delivers}
 use Rattle.codec_payload_jitter.specs.declared.outcome.Outcome.{Outcome}
-use Rattle.codec_payload_jitter.specs.declared.waiting.WaitLimits.{WaitLimits}
 use Rattle.codec_payload_metadata.specs.Release.{Release}
 use Rattle.codec_payload_metadata.specs.declared.meta.RtpMeta.{RtpMeta}
 use Rattle.codec_payload_numbers.specs.NotedTimes.{AreTimesOf}
@@ -37,10 +34,10 @@ use Rattle.codec_payload_rtp.specs.declared.values.ExtensionIds.{ExtensionIds}
 use Rattle.codec_payload_sending.specs.declared.sender.Outgoing.{Outgoing}
 use Rattle.codec_payload_sending_history.specs.declared.retransmission.RetransmissionStream.{RetransmissionStream}
 use Rattle.codec_payload_session_stream.specs.Streams.{is_no_memory}
-use Rattle.codec_payload_session_runs.specs.Lives.{ReceiverCall, RunsAlone, DoesAlone, finishes, follows, pairs, pops, receives, reports, waits, with_shown}
+use Rattle.codec_payload_session_runs.specs.Lives.{ReceiverCall, RunsAlone, finishes, follows, pairs, pops, receives, reports, waits, with_shown}
 use Rattle.codec_payload_datagram_runs.specs.declared.run.DatagramStep.{DatagramStep}
 use Rattle.codec_payload_session_units.specs.OneSender.{AreApartFrom, AreCopies, FoundMemory, answers_by, effective, steps_by}
-use Rattle.codec_payload_session_units.specs.StreamUnits.{AnswersSomeTurn, IsLogOfStream}
+use Rattle.codec_payload_session_units.specs.StreamUnits.{IsLogOfStream}
 use Rattle.codec_payload_session_units.proofs.CopyLemmas.{HasType, IsStream, copy_is_pushed, found_memory, lost_leaves, not_again_by}
 
 -- each pair among these calls has the payload type that the format has for retransmissions

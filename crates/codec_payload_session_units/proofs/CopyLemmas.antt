@@ -1,5 +1,5 @@
 -- A copy of a datagram of its sender, as the receiver of a stream takes it.
-use Rattle.std.proofs.Common.{◌≡◌, ◌≢◌, ◌∙◌, refl, sym, ap, ap₂, subst, ℕ, ◌+◌, ◌%◌, ◌^◌, ◌<◌, ◌⊎◌, inl, inr, ◌&&◌, ◌||◌, List, ◌∷◌, ◌++◌, Bool, true, false, eqb, not, cond, Option, Some, None, Result, Ok, Err, arith}
+use Rattle.std.proofs.Common.{◌≡◌, ◌≢◌, ◌∙◌, refl, sym, ap, ap₂, subst, ℕ, ◌%◌, ◌^◌, ◌<◌, ◌⊎◌, inl, inr, ◌&&◌, ◌||◌, List, ◌++◌, Bool, true, false, eqb, not, cond, Option, Some, None, Result, Ok, Err}
 use Rattle.std.specs.Int.{w16, to_be_bytes}
 use Rattle.std.proofs.lemmas.Bool.{ne_eqb}
 use Rattle.std.proofs.lemmas.Bool.Decides.{eqb_tells}

@@ -1,13 +1,11 @@
 -- The premises of the theorem can be met.
-use Rattle.std.proofs.Common.{◌≡◌, ◌≢◌, ◌∙◌, refl, sym, ap, subst, ℕ, ◌<◌, ◌≤◌, List, [], ◌∷◌, inl, inr, Option, Some, None, Ok, false, length, arith, lit<, lit≤}
+use Rattle.std.proofs.Common.{◌≡◌, refl, sym, ap, [], ◌∷◌, inl, inr, Some, None, false, arith, lit<, lit≤}
 use Rattle.std.proofs.lemmas.Option.{same_Some}
 use Rattle.codec_payload_codec.specs.Depacketizers.{DepacketizerState, OpusDepacketizing, configured_depacketizer, kind_of_depacketizer}
 use Rattle.codec_payload_datagram_runs.specs.WireRunExample.{frames_sent, one_each, opus_sender}
 use Rattle.codec_payload_keyframes.specs.UnitGates.{drops_units}
-use Rattle.codec_payload_keyframes.specs.declared.unit_gate.FromKeyframe.{FromKeyframe}
 use Rattle.codec_payload_keyframes.specs.declared.unit_gate.FromKeyframe.TheVariants as modes
 use Rattle.codec_payload_metadata.specs.Release.{Release}
-use Rattle.codec_payload_sending.specs.Senders.{Sending}
 use Rattle.codec_payload_session_formats.specs.declared.formats.SessionSettings.{SessionSettings}
 use Rattle.codec_payload_session_units.specs.Example.{AreSent, IsSendersAt, Sent, StreamsCanBeMet, again_stream, calls_made, opus_format, other_sender}
 use Rattle.codec_payload_session_units.specs.OneSender.{IsSenderFor}

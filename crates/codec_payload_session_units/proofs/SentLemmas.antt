@@ -1,20 +1,16 @@
 -- What a sender of samples sends, as a run over datagrams that only sends.
-use Rattle.std.proofs.Common.{◌≡◌, ◌∙◌, refl, sym, ap, subst, ℕ, suc, ◌+◌, ◌%◌, ◌^◌, ◌<◌, List, [], ◌∷◌, ◌++◌, Option, Some, None, Result, Ok, MatchOption, length, arith, append_assoc, append-nil}
+use Rattle.std.proofs.Common.{◌≡◌, ◌∙◌, refl, sym, ap, subst, ℕ, suc, ◌^◌, ◌<◌, List, [], ◌∷◌, ◌++◌, Option, Some, None, Ok, MatchOption, length, arith, append_assoc, append-nil}
 use Rattle.std.specs.Prelude.{slice_get}
 use Rattle.std.proofs.lemmas.List.{length-append}
-use Rattle.codec_payload_buffer.specs.Steps.{State}
 use Rattle.codec_payload_buffer_runs.proofs.units.BuiltInRuns.{plainly, unused_exactly}
 use Rattle.codec_payload_buffer_runs.proofs.units.StreamLemmas.{streams}
 use Rattle.codec_payload_buffer_runs.specs.Headline.{IsUnused}
 use Rattle.codec_payload_buffer_runs.specs.Schedule.{RunState}
-use Rattle.codec_payload_buffer_runs.specs.declared.run.Step.{Step}
-use Rattle.codec_payload_codec.specs.Packetizers.{is_built_in}
 use Rattle.codec_payload_datagram_runs.proofs.Courses.{proceeds}
 use Rattle.codec_payload_datagram_runs.proofs.ReleaseLemmas.{SendsFrom, starts_unused}
 use Rattle.codec_payload_datagram_runs.proofs.SendingLemmas.{SendsRun, running, sends_run}
 use Rattle.codec_payload_datagram_runs.specs.Releases.{AreOfOneStream, sending_steps, times_sent}
 use Rattle.codec_payload_datagram_runs.specs.WireRuns.{Runs, SendsIt, SendsOrRefuses, Wire, begins, sent_sample}
-use Rattle.codec_payload_datagram_runs.specs.declared.run.DatagramStep.{DatagramStep}
 use Rattle.codec_payload_datagram_runs.specs.declared.run.SentSample.{SentSample}
 use Rattle.codec_payload_codec.specs.Depacketizers.{DepacketizerState}
 use Rattle.codec_payload_payloader.specs.Sending.{Sample}

@@ -1,8 +1,6 @@
 -- What answers of a session show of a stream, beside all calls of its receiver.
-use Rattle.std.proofs.Common.{◌≡◌, ◌≢◌, ◌∙◌, refl, sym, ap, ap₂, subst, ℕ, ◌+◌, ◌≤◌, ◌⊎◌, inl, inr, List, [], ◌∷◌, ◌++◌, Bool, true, false, not, Option, Some, None, Result, Ok, Err}
+use Rattle.std.proofs.Common.{◌≡◌, ◌∙◌, refl, sym, ap, subst, ℕ, ◌+◌, inl, inr, List, [], ◌∷◌, Bool, true, false, not, Option, Some, None, Result, Ok, Err}
 use Rattle.std.specs.declared.alloc.AllocError.{AllocError}
-use Rattle.codec_payload_base.specs.declared.error.PacketError.{PacketError}
-use Rattle.codec_payload_base.specs.declared.error.PacketError.TheVariants as faults
 use Rattle.codec_payload_base.specs.declared.wire.Ticks.{Ticks}
 use Rattle.codec_payload_buffer.proofs.MemberLemmas.{IsIn}
 use Rattle.codec_payload_buffer_runs.specs.Headline.{InOrder}
@@ -21,7 +19,7 @@ use Rattle.codec_payload_receiver.specs.declared.pops.Popped.TheVariants as popp
 use Rattle.codec_payload_receiver.specs.declared.receiver.ReceiveError.{ReceiveError}
 use Rattle.codec_payload_sending_history.specs.declared.retransmission.RetransmissionStream.{RetransmissionStream}
 use Rattle.codec_payload_session_stream.specs.Streams.{is_no_memory}
-use Rattle.codec_payload_session_runs.specs.Lives.{ReceiverCall, finishes, follows, is_answer, pairs, pops, receives, reports, shown, waits, with_shown}
+use Rattle.codec_payload_session_runs.specs.Lives.{ReceiverCall, finishes, follows, pairs, pops, receives, reports, shown, waits, with_shown}
 use Rattle.codec_payload_session_units.specs.OneSender.{AreCopies, FoundMemory, answers_by, effective, steps_by}
 use Rattle.codec_payload_session_units.specs.StreamUnits.{answered}
 

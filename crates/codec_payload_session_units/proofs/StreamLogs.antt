@@ -1,6 +1,5 @@
 -- The log of a stream's receiver is a chain of turns.
 use Rattle.std.proofs.Common.{◌≡◌, ◌∙◌, refl, sym, ap, subst, ℕ, List, [], ◌∷◌, ◌++◌, Bool, true, inl, inr}
-use Rattle.std.specs.Prelude.{slice_get}
 use Rattle.codec_payload_base.specs.declared.wire.Ticks.{Ticks}
 use Rattle.codec_payload_buffer.proofs.MemberLemmas.{IsIn}
 use Rattle.codec_payload_buffer.specs.Held.{Held}

@@ -15,12 +15,11 @@ use Rattle.codec_payload_session_stream.specs.Units.{Event}
 use Rattle.codec_payload_session_stream.specs.declared.arrival.Arrival.{Arrival}
 use Rattle.codec_payload_session_stream.specs.declared.arrival.Arrival.TheVariants as arrivals
 use Rattle.codec_payload_session_stream.specs.declared.events.Event.TheVariants as events
-use Rattle.codec_payload_session_runs.specs.Lives.{AreMadeBy, FollowedWaits, IsMadeAs, IsMadeBy, Projects, ReceiverCall, events_by, events_in, events_of, finishes, follows, given_by, is_same, one_call, one_event, pairs, pops, receives, released_by, reports, shown_by, shown_in, shown_of, unit_or_memory, waits}
+use Rattle.codec_payload_session_runs.specs.Lives.{AreMadeBy, FollowedWaits, IsMadeAs, Projects, ReceiverCall, events_by, events_in, events_of, finishes, follows, given_by, is_same, one_call, one_event, pairs, pops, receives, released_by, reports, shown_by, shown_in, shown_of, unit_or_memory, waits}
 use Rattle.codec_payload_session_runs.specs.SessionRuns.{Call, Does, Runs}
 use Rattle.codec_payload_session_runs.specs.declared.run.SessionStep.{SessionStep}
 use Rattle.codec_payload_session_runs.specs.declared.run.SessionStep.TheVariants as calls
 use Rattle.codec_payload_session_runs.specs.declared.run.StepAnswer.{StepAnswer}
-use Rattle.codec_payload_session_runs.specs.declared.run.StepAnswer.TheVariants as answers
 use Rattle.codec_payload_session_units.specs.OneSender.{answers_by}
 use Rattle.codec_payload_session_units.specs.StreamUnits.{units_told}
 use Rattle.codec_payload_session_units.proofs.CallEvents.{AllTyped}

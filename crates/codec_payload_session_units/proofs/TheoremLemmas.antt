@@ -1,16 +1,13 @@
 -- The theorem, for a stream that a session has, or had until it ended.
-use Rattle.std.proofs.Common.{◌≡◌, ◌∙◌, refl, sym, ap, subst, ℕ, List, [], ◌∷◌, ◌++◌, Bool, true}
+use Rattle.std.proofs.Common.{◌≡◌, ◌∙◌, refl, sym, ap, subst, List, [], ◌∷◌, ◌++◌, true}
 use Rattle.codec_payload_buffer_runs.specs.Schedule.{Answer}
 use Rattle.codec_payload_datagram_runs.specs.Releases.{AreOfOneStream}
 use Rattle.codec_payload_receiver.specs.Sessions.{Session as Receiver}
 use Rattle.codec_payload_session.specs.Ports.{Session, new_session}
-use Rattle.codec_payload_session_formats.specs.declared.formats.Format.{Format}
 use Rattle.codec_payload_session_formats.specs.declared.formats.SessionSettings.{SessionSettings}
 use Rattle.codec_payload_session_stream.specs.declared.stream.StreamState.{StreamState}
-use Rattle.codec_payload_session_stream.specs.declared.stream.Ending.{Ending}
-use Rattle.codec_payload_base.specs.declared.wire.Ticks.{Ticks}
 use Rattle.codec_payload_session_runs.proofs.ReachedLemmas.{each_ended, reached, runs_split}
-use Rattle.codec_payload_session_runs.specs.Lives.{EachIsAlone, EndedAlone, IsAlone, ReceiverCall, ending_poll, events_of, shown_of, waits_for}
+use Rattle.codec_payload_session_runs.specs.Lives.{EachIsAlone, EndedAlone, ReceiverCall, ending_poll, events_of, waits_for}
 use Rattle.codec_payload_session_runs.specs.SessionRuns.{Call, Runs}
 use Rattle.codec_payload_session_units.specs.OneSender.{IsOneSenders, answers_by}
 use Rattle.codec_payload_session_units.specs.StreamUnits.{AllStreamsReleaseUnits, EachReleasesUnits, EndedStreamsReleaseUnits, KeepsPromises, StreamsReleaseUnits, answered, units_told}

@@ -1,8 +1,6 @@
 -- The units of a stream are its sender's: what the sender sends, what the receiver gets, and the theorem of the buffer.
-use Rattle.std.proofs.Common.{◌≡◌, ◌≢◌, ◌∙◌, refl, sym, ap, subst, ℕ, ◌+◌, ◌-◌, ◌*◌, ◌%◌, ◌^◌, ◌<◌, max, List, [], ◌∷◌, ◌++◌, map, false, Bool, Option, None, Some, Result, Ok, Err, length, arith}
-use Rattle.std.specs.Prelude.{slice_get}
+use Rattle.std.proofs.Common.{◌≡◌, ◌≢◌, ◌∙◌, refl, sym, ap, subst, ℕ, ◌+◌, ◌-◌, ◌%◌, ◌<◌, List, [], ◌∷◌, false, Bool, Option, None, Some, length, arith}
 use Rattle.std.proofs.lemmas.Option.{slice_get_within}
-use Rattle.codec_payload_base.specs.declared.wire.Ticks.{Ticks}
 use Rattle.codec_payload_buffer.proofs.MemberLemmas.{contains_in}
 use Rattle.codec_payload_codec.specs.Depacketizers.{DepacketizerKind, DepacketizerState, is_built_in_depacketizer, is_codec, tail_in}
 use Rattle.codec_payload_codec.proofs.CodecLemmas.{codec_payloads}
@@ -22,9 +20,9 @@ use Rattle.codec_payload_buffer_runs.specs.RunValues.{values_of_run}
 use Rattle.codec_payload_buffer_runs.specs.SentStream.{SentUnit, packets_of}
 use Rattle.codec_payload_buffer_runs.specs.declared.run.Step.{Step}
 use Rattle.codec_payload_payloader.specs.Packets.{Packet}
-use Rattle.codec_payload_buffer_runs.specs.Schedule.{Answer, RunState}
+use Rattle.codec_payload_buffer_runs.specs.Schedule.{RunState}
 use Rattle.codec_payload_numbers.specs.NotedTimes.{AreTimesOf}
-use Rattle.codec_payload_numbers.specs.Numbers.{Numbering, no_numbers}
+use Rattle.codec_payload_numbers.specs.Numbers.{Numbering}
 use Rattle.codec_payload_receiver.specs.RedOnce.{HasNoBlock}
 use Rattle.codec_payload_receiver.specs.Sessions.{Session as Receiver}
 use Rattle.codec_payload_receiver.specs.declared.receiver.Settings.{Settings}
@@ -36,7 +34,7 @@ use Rattle.codec_payload_datagram_runs.proofs.EventLemmas.{AllTimed, IsRead, del
 use Rattle.codec_payload_datagram_runs.proofs.GapLemmas.{only_past_gap}
 use Rattle.codec_payload_datagram_runs.proofs.LogLemmas.{Chained, all_follow, all_in_time, none_is_lost, none_passed, stretches}
 use Rattle.codec_payload_datagram_runs.proofs.NewReceivers.{IsBegun, new_is_begun}
-use Rattle.codec_payload_datagram_runs.proofs.ReceivingLemmas.{AllNumbered, IsListening}
+use Rattle.codec_payload_datagram_runs.proofs.ReceivingLemmas.{AllNumbered}
 use Rattle.codec_payload_datagram_runs.proofs.ReleaseLemmas.{AllBelow, SentFrom, first_for, first_low, first_small, numbered_within, starts_unused}
 use Rattle.codec_payload_datagram_runs.proofs.SendingLemmas.{running, times_in}
 use Rattle.codec_payload_datagram_runs.proofs.ValueLemmas.{has_values}
@@ -44,7 +42,7 @@ use Rattle.codec_payload_datagram_runs.specs.Releases.{AreDatagrams, AreOfOneStr
 use Rattle.codec_payload_datagram_runs.specs.declared.run.DatagramStep.{DatagramStep}
 use Rattle.codec_payload_datagram_runs.specs.declared.run.DatagramStep.TheVariants as steps
 use Rattle.codec_payload_sending_history.specs.declared.retransmission.RetransmissionStream.{RetransmissionStream}
-use Rattle.codec_payload_session_formats.specs.Formats.{backward_for, forward_for, is_video as is_of_video}
+use Rattle.codec_payload_session_formats.specs.Formats.{forward_for, is_video as is_of_video}
 use Rattle.codec_payload_session_formats.specs.declared.formats.Format.{Format}
 use Rattle.codec_payload_session_formats.specs.declared.formats.SessionSettings.{SessionSettings}
 use Rattle.codec_payload_session_runs.specs.Lives.{ReceiverCall, RunsAlone, finishes, follows, pairs, pops, receives, reports, shown, waits}
