@@ -28,7 +28,7 @@ use Rattle.codec_payload_session_units.proofs.CopyLemmas.{HasType, not_again_by}
 use Rattle.codec_payload_sending.specs.Senders.{Sending}
 
 -- a new depacketizer has extended no picture ids
-nothing_read : (codec : Codec) (octet : Bool) (rate : ℕ) (d : DepacketizerState) → depacketizer_state_for codec ≡ Some d → read_by (configured_depacketizer octet rate d) ≡ None
+pub nothing_read : (codec : Codec) (octet : Bool) (rate : ℕ) (d : DepacketizerState) → depacketizer_state_for codec ≡ Some d → read_by (configured_depacketizer octet rate d) ≡ None
 nothing_read codecs.Opus octet rate d is = subst (λ (x : DepacketizerState). read_by (configured_depacketizer octet rate x) ≡ None) (same_Some OpusDepacketizing d is) refl
 nothing_read codecs.PCMU octet rate d is = subst (λ (x : DepacketizerState). read_by (configured_depacketizer octet rate x) ≡ None) (same_Some G711Depacketizing d is) refl
 nothing_read codecs.PCMA octet rate d is = subst (λ (x : DepacketizerState). read_by (configured_depacketizer octet rate x) ≡ None) (same_Some G711Depacketizing d is) refl

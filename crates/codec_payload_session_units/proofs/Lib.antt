@@ -2,6 +2,9 @@ pub mod BeginLemmas
 pub mod CallEvents
 pub mod CopyLemmas
 pub mod ExampleLemmas
+pub mod RedCalls
+pub mod RedLogs
+pub mod RedUnits
 pub mod SentLemmas
 pub mod ShownLemmas
 pub mod StreamLogs

@@ -56,7 +56,7 @@ use Rattle.codec_payload_session_units.proofs.ShownLemmas.{before_shown, copies_
 use Rattle.codec_payload_session_units.proofs.StreamLogs as logs
 
 -- the indices of copies are those of sent datagrams
-copies_below : (again : Option RetransmissionStream) (ds : List (List ℕ)) (calls : List ReceiverCall) (ks : List ℕ) → AreCopies again ds calls ks → AllBelow (length ds) ks
+pub copies_below : (again : Option RetransmissionStream) (ds : List (List ℕ)) (calls : List ReceiverCall) (ks : List ℕ) → AreCopies again ds calls ks → AllBelow (length ds) ks
 copies_below again ds [] ks copies = subst (AllBelow (length ds)) (sym copies) tt
 copies_below again ds (receives now bytes answer ∷ calls) [] copies = absurd copies
 copies_below again ds (receives now bytes answer ∷ calls) (k ∷ ks) copies = (slice_get_within ds k copies.0.0 copies.0.1, copies_below again ds calls ks copies.1)

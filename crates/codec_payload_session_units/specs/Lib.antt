@@ -1,3 +1,5 @@
 pub mod Example
+pub mod OneRedSender
 pub mod OneSender
+pub mod RedStreamLogs
 pub mod StreamUnits
