@@ -3,6 +3,7 @@ pub mod CallEvents
 pub mod CopyLemmas
 pub mod ExampleLemmas
 pub mod RedCalls
+pub mod RedExampleLemmas
 pub mod RedLogs
 pub mod RedUnits
 pub mod SentLemmas

@@ -2,6 +2,7 @@
 
 ghost use Rattle.codec_payload_session_units.specs.Example.{StreamsCanBeMet};
 ghost use Rattle.codec_payload_session_units.specs.OneRedSender.{RedStreamsReleaseUnits};
+ghost use Rattle.codec_payload_session_units.specs.RedExample.{RedStreamCanBeMet};
 ghost use Rattle.codec_payload_session_units.specs.RedStreamLogs.{RedStreamsKeepPromises};
 ghost use Rattle.codec_payload_session_units.specs.StreamUnits.{AllStreamsReleaseUnits, EndedStreamsReleaseUnits, StreamsReleaseUnits};
 
@@ -30,4 +31,9 @@ pub fn red_streams_release_units()
 /// retransmission.
 pub fn premises_can_be_met()
     ensures { StreamsCanBeMet }
+{}
+
+/// The premises in RED can be met: of three datagrams the second is lost, and the third repeats its payload.
+pub fn red_premises_can_be_met()
+    ensures { RedStreamCanBeMet }
 {}

@@ -1,12 +1,14 @@
-//! The units of streams are their senders': the run that `specs/Example.antt` of `codec_payload_session_units` describes, and one in which a
-//! stream ends.
+//! The units of streams are their senders': the runs that `specs/Example.antt` and `specs/RedExample.antt` of `codec_payload_session_units`
+//! describe, and one in which a stream ends.
 
 use crate::Fail;
 use crate::datagrams::*;
 use codec_payload::history::*;
+use codec_payload::red_writer::RedWriter;
 use codec_payload::sender::{Sample, Sender, SenderSettings};
 use codec_payload::session::runs::*;
 use codec_payload::session::*;
+use codec_payload::stream::RedSettings;
 use codec_payload::*;
 
 const AGAIN: RetransmissionStream = RetransmissionStream {
@@ -186,6 +188,44 @@ fn the_unit_behind_a_loss_comes_after_the_wait() -> Result<(), Fail> {
             "Done",
             "9 ByCall",
             "nothing"
+        ]
+    );
+    Ok(())
+}
+
+/// A sender in RED, whose second datagram is lost. The third one repeats its payload.
+#[test]
+fn a_sender_in_red_with_a_loss() -> Result<(), Fail> {
+    let mut writer = RedWriter::new(RED, OPUS, &[1], 1_200)?;
+    let mut written = Vec::new();
+    for datagram in sent(7)? {
+        let mut out = Vec::new();
+        writer.write(&datagram, &mut out)?;
+        written.push(out);
+    }
+    let mut settings = SessionSettings::live();
+    settings.audio.start = 0;
+    settings.formats = vec![Format {
+        red: Some(RedSettings {
+            payload_type: RED,
+            step: 960,
+            retransmission: None,
+        }),
+        ..opus_format()
+    }];
+    let mut steps = vec![receive(20, &written[0]), receive(60, &written[2])];
+    steps.extend([poll(62), poll(62), poll(62), poll(62), poll(62)]);
+    let made = run_new_session(settings, &steps)?;
+    assert_eq!(
+        lines(&made.run),
+        [
+            "7 Held",
+            "7 Held",
+            "7 begun",
+            "7 unit [1, 2]",
+            "7 unit [3, 4]",
+            "7 unit [5]",
+            "nothing",
         ]
     );
     Ok(())
