@@ -23,9 +23,10 @@ const FRAMES: [&[u8]; 3] = [&[1, 2], &[3, 4], &[5]];
 fn settings() -> SessionSettings {
     let mut settings = SessionSettings::live();
     settings.audio.start = 0;
-    settings.formats = vec![Format {
-        retransmission: Some(AGAIN.payload_type),
-        ..opus_format()
+    settings.formats = vec![{
+        let mut format = opus_format();
+        format.retransmission = Some(AGAIN.payload_type);
+        format
     }];
     settings
 }
@@ -205,13 +206,14 @@ fn a_sender_in_red_with_a_loss() -> Result<(), Fail> {
     }
     let mut settings = SessionSettings::live();
     settings.audio.start = 0;
-    settings.formats = vec![Format {
-        red: Some(RedSettings {
+    settings.formats = vec![{
+        let mut format = opus_format();
+        format.red = Some(RedSettings {
             payload_type: RED,
             step: 960,
             retransmission: None,
-        }),
-        ..opus_format()
+        });
+        format
     }];
     let mut steps = vec![receive(20, &written[0]), receive(60, &written[2])];
     steps.extend([poll(62), poll(62), poll(62), poll(62), poll(62)]);
