@@ -1,7 +1,7 @@
 //! The handle, through which C holds a path to a viewer or what goes with it.
 
-use crate::path::object::PathObject;
 use crate::memory::One;
+use crate::path::object::PathObject;
 use core::{mem, ptr};
 
 /// A pointer to a value on the heap, or to nothing.
