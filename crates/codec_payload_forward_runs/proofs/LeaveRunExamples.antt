@@ -38,13 +38,19 @@ Leaving samples sends results =
 frames_leaving : Leaving frames_sent one_each leave_answers
 frames_leaving = (
   (one_whole (1 ∷ []) 0, (one_whole (1 ∷ []) 1, (one_whole (1 ∷ []) 2, tt))),
-  ((refl, tt), ((lit< tt, lit≤ tt, (lit< tt, lit≤ tt, tt)), ((lit< tt, (lit< tt, lit≤ tt, tt)), (λ l. lit≤ tt, tt)))),
+  (refl, tt),
+  (lit< tt, lit≤ tt, (lit< tt, lit≤ tt, tt)),
+  (lit< tt, (lit< tt, lit≤ tt, tt)),
+  (λ l. lit≤ tt, tt),
 )
 
 ids_leaving : Leaving leave_frames one_each leave_answers
 ids_leaving = (
   (one_whole (1 ∷ []) 0, (one_whole (1 ∷ []) 1, (one_whole (1 ∷ []) 2, tt))),
-  ((refl, tt), ((lit< tt, lit≤ tt, (lit< tt, lit≤ tt, tt)), ((lit< tt, (lit< tt, lit≤ tt, tt)), (λ l. lit≤ tt, tt)))),
+  (refl, tt),
+  (lit< tt, lit≤ tt, (lit< tt, lit≤ tt, tt)),
+  (lit< tt, (lit< tt, lit≤ tt, tt)),
+  (λ l. lit≤ tt, tt),
 )
 
 -- behind a forwarder with the settings of the example

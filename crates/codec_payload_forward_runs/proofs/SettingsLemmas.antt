@@ -31,8 +31,8 @@ forwards_keeps now p f answers.LeftOut bytes t does = same f t does.2.1
 forwards_keeps now p f answers.Filled bytes t does = absurd does
 
 leaves_keeps : (p : Packet) (f : Forward) (answer : Forwarded) (bytes : List ℕ) (t : Forward) → Leaves p f answer bytes t → Keeps f t
-leaves_keeps p f answers.LeftOut bytes t (on, (none, inl stays)) = same f t stays.1
-leaves_keeps p f answers.LeftOut bytes t (on, (none, inr goes)) = ap (λ (x : Forward). x.settings) goes.1
+leaves_keeps p f answers.LeftOut bytes t (on, none, inl stays) = same f t stays.1
+leaves_keeps p f answers.LeftOut bytes t (on, none, inr goes) = ap (λ (x : Forward). x.settings) goes.1
 leaves_keeps p f answers.Filled bytes t does = same f t does.3
 leaves_keeps p f answers.OtherSource bytes t does = same f t does.1.1
 leaves_keeps p f answers.TooOld bytes t does = same f t does.2.1

@@ -1,7 +1,7 @@
 //! The runs of the theorems that premises can be met. A theorem has values of samples, steps, parts and results, and says: a run with
 //! these results meets the premises. Each test makes the parts by their constructors, executes the run, and finds these results.
 //!
-//! The fifteen theorems, each with a test of the same name (`scripts/statements.py` compares the names with the theorems): in this file
+//! The fifteen theorems, each with a test of the same name (`scripts/documents.py` compares the names with the theorems): in this file
 //! `premises_can_be_met`, `times_can_be_met`, `history_premises_can_be_met`, `restart_premises_can_be_met`, `red_premises_can_be_met`,
 //! `red_history_premises_can_be_met`, `forwarding_premises_can_be_met`, `leaving_premises_can_be_met` and
 //! `switching_premises_can_be_met`; in `witness_runs` `store_premises_can_be_met`, `switched_units_premises_can_be_met`,
