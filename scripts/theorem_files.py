@@ -145,7 +145,7 @@ FILES = {
             'its stream of retransmissions is not the sender\'s own. The samples can be read again. Counted as they were sent, the first delivered datagram is among the first '
             '65,536, and each later one is less than `forward` above the highest delivered before it, and at most `backward` below. A delivered datagram that was sent before '
             'the first delivered one has an RTP time from 5 seconds before that of the first one up to it. Runs that meet this are proved (`premises_can_be_met`).',
-            'When a pop returns a unit (INTIME.txt). Anything about datagrams of others, or altered ones. A unit above `max_unit` counts as popped, although the receiver answers `TooLarge`.',
+            'When a pop returns a unit (INTIME.txt). Anything about datagrams of others, or altered ones. A unit above `max_unit` counts as popped, although the receiver answers `TooLarge`: `LargeUnits.antt` of codec_payload_timely_runs says of which units it does so.',
             'SAFETY.txt, then LOSS.txt; what they explain is only named here. Parts 1 and 2 are the theorem. Part 3 is the log with its waits, part 4 what is promised of each log, part 5 the '
             'values of header extensions.'),
         'parts': [('the premise', ['IsWithinWindows']), ('the log', ['WireLog']), ('what is promised of each log', ['AreStretches', 'AllFollowAsSaid', 'AllInTime', 'PopsAreBrought']),

@@ -1,6 +1,6 @@
 -- A run of a media server that leaves a frame out, with these results, meets the premises.
 use Rattle.std.specs.Global.{Vec}
-use Rattle.std.proofs.Common.{◌≡◌, refl, sym, subst, List, map}
+use Rattle.std.proofs.Common.{◌≡◌, refl, sym, subst, ℕ, List, map}
 use Rattle.codec_payload_base.specs.declared.wire.Codec.TheVariants as codecs
 use Rattle.codec_payload_codec.specs.Depacketizers.{OpusDepacketizing, Vp8Depacketizing}
 use Rattle.codec_payload_payloader.specs.Sending.{Sample}

@@ -1,6 +1,6 @@
 -- A run of a media server with a store, and with these results, meets the premises.
 use Rattle.std.specs.Global.{Vec}
-use Rattle.std.proofs.Common.{◌≡◌, refl, sym, subst, List, [], ◌∷◌, map}
+use Rattle.std.proofs.Common.{◌≡◌, refl, sym, subst, ℕ, List, [], ◌∷◌, map}
 use Rattle.codec_payload_session.specs.Ports.{new_session}
 use Rattle.codec_payload_session_formats.specs.declared.formats.SessionSettings.{SessionSettings}
 use Rattle.codec_payload_datagram_runs.specs.Releases.{AllComeFirst, received_steps}
