@@ -53,7 +53,9 @@ README_LINES = 170
 README_WORDS = 500
 PICTURE_BYTES = 80_000
 # The pages that say what is proved, and name only what public statements have.
-STATED = [f"docs/proof/{it}.md" for it in ("PROMISES", "FORWARDED", "SESSIONS", "CONTRACTS")]
+STATED = [f"docs/proof/{it}.md" for it in ("README", "PROMISES", "FORWARDED", "SESSIONS", "CONTRACTS", "statements/README")]
+# Pages on proofs that also name lemmas, files and things of the toolchain.
+NAMING = [f"docs/proof/{it}.md" for it in ("TRUST", "VERIFICATION")]
 # Pictures of a screen, which a test takes (tools/live_server/test.py).
 SHOTS = ["live_server.webp", "live_server_phone.webp"]
 FENCE = re.compile(r"^( *)```(.*)$")
@@ -341,15 +343,48 @@ def not_stated(page, text):
     """The names of a text about what is proved that no public statement has. `history_` stands for names with this beginning."""
     stated = {it for path in glob.glob(f"{ROOT}/docs/proof/statements/*.txt") for it in re.findall(r"\w+", read(path))}
     known = stated | set(re.findall(r"\bCPAY_\w+", read("include/codec_payload.h")))
-    for name in sorted(set(re.findall(r"`([A-Za-z_]\w*)`", text))):
+    for name in names_in(text):
         if name not in known and not (name.endswith("_") and any(it.startswith(name) for it in stated)):
             yield f"{page}: no public statement has {name}"
 
 
+def names_in(text):
+    """The names in code type, also those of a path."""
+    return sorted({name for it in re.findall(r"`([A-Za-z_]\w*(?:::\w+)*)`", text) for name in it.split("::")})
+
+
+def not_found(page, text):
+    """The names of a text about proofs that no source has: crates, crates.txt, scripts and the libraries for C and Rust."""
+    known = set()
+    for path in ["crates.txt", *files(".rt", ".antt", ".py", ".sh", ".c", ".h", ".rs")]:
+        known |= set(re.findall(r"\w+", read(path)))
+    for name in names_in(text):
+        if name not in known:
+            yield f"{page}: no source has {name}"
+
+
 def cited():
-    """Each name in code type on a page that says what is proved is in a public statement."""
+    """Each name in code type on a page that says what is proved is in a public statement, and on a page about proofs in a source."""
     for page in STATED:
         yield from not_stated(page, "\n".join(line for _, line in blocks_and_rest(page)[1]))
+    for page in NAMING:
+        yield from not_found(page, "\n".join(line for _, line in blocks_and_rest(page)[1]))
+
+
+def witness_tests():
+    """The tests that execute the runs of the theorems that premises can be met."""
+    return "\n".join(read(it) for it in files(".rs") if re.search(r"rust/tests/wire/witness\w*\.rs$", it))
+
+
+def witnesses(tests):
+    """Each theorem that premises can be met has a test of its name, which executes the run; and the page of these tests has all names."""
+    executed, listed = set(re.findall(r"#\[test\]\nfn (\w+)", tests)), set(re.findall(r"^//!.*$", tests, re.M))
+    for path in files(".rt"):
+        for name in re.findall(r"^pub fn (\w*can_be_met)\(", read(path), re.M):
+            if name not in executed:
+                yield f"{path}: no test of rust/tests/wire executes the run of {name}"
+            if not any(f"`{name}`" in it for it in listed):
+                yield f"rust/tests/wire/witnesses.rs does not list {name}"
 
 
 def mutant_results():
@@ -591,7 +626,7 @@ def main(words):
     pages = files(".md")
     wrong = [
         *links(pages), *named_pages(), *lines(pages), *crate_table(), *versions(), *toolchain(), *additions(), *figures(),
-        *pictures(pages), *glossary(), *lemmas(), *cited(), *counted_lines(), *mutant_results(), *blocks(pages, quick),
+        *pictures(pages), *glossary(), *lemmas(), *cited(), *witnesses(witness_tests()), *counted_lines(), *mutant_results(), *blocks(pages, quick),
     ]
     if not quick:
         wrong += [*begun_crate(), *commands(pages)]

@@ -38,6 +38,7 @@ PLANTS = [
     ('a function in front that ends in its head', RUN, '/// Does the steps', '/// Does nothing.\npub fn nothing()\n    ensures { Unit {0} }\n{}\n\n/// Does the steps', 'shows', 'nothing'),
 ]
 NOTHING = ('nothing', RUN, '', '', 'nothing', 'nothing')
+PAGE_PLANTS = 4
 
 
 def edited(text, old, new):
@@ -76,6 +77,18 @@ def copied(folder):
     shutil.copy('scripts/theorem_comments.txt', f'{folder}/scripts')
 
 
+def plants_in_pages():
+    """Plants in pages and tests: what each is, what scripts/documents.py reports, and what it should."""
+    page, path = '`HasNoSuchName` and `IsAlone` are proved.', '`Receiver::has_no_such_name` is proved.'
+    tests, witness = documents.witness_tests(), 'store_premises_can_be_met'
+    theorems = 'crates/codec_payload_forward_runs/src/theorems.rt'
+    yield 'a name that is gone', documents.not_stated('a page', page), 'a page: no public statement has HasNoSuchName'
+    yield 'a method that is gone', documents.not_stated('a page', path), 'a page: no public statement has has_no_such_name'
+    yield 'a lemma that is gone', documents.not_found('a page', '`has_no_' + 'such_lemma`'), 'a page: no source has has_no_' + 'such_lemma'
+    yield 'a witness without a test', documents.witnesses(tests.replace(f'#[test]\nfn {witness}', f'fn {witness}')), \
+        f'{theorems}: no test of rust/tests/wire executes the run of {witness}'
+
+
 def main():
     """Tries all plants."""
     os.chdir(ROOT)
@@ -97,11 +110,11 @@ def main():
             if found != (by_statements, by_theorem):
                 failed += 1
                 print(f'{name}: statements.py {found[0]}, theorem.py {found[1]}; expected {by_statements}, {by_theorem}')
-    page = '`HasNoSuchName` and `IsAlone` are proved.'
-    if list(documents.not_stated('a page', page)) != ['a page: no public statement has HasNoSuchName']:
-        failed += 1
-        print('documents.py does not report a name that is gone')
-    print(f'{len(PLANTS) + 2 - failed} plants seen, {failed} not')
+    for name, found, expected in plants_in_pages():
+        if list(found) != [expected]:
+            failed += 1
+            print(f'{name}: documents.py does not report it')
+    print(f'{len(PLANTS) + 1 + PAGE_PLANTS - failed} plants seen, {failed} not')
     return 1 if failed else 0
 
 

@@ -50,7 +50,7 @@ STOPS = {
 PASSED_ON = 'the statement says that the receiver makes this step, and passes the step on: it holds for any step in its place.'
 A_TABLE = 'a function of the codec: a table of first values.'
 OF_BYTES = 'a function of the bytes, proved against a grammar of packets both ways (`reading_follows_the_grammars`). If it read nothing, no datagram could read as its packet.'
-MET = 'a function of the settings, so no two receivers meet it. A run with such a receiver is proved ({}).'
+MET = 'a function of the settings, so no two receivers meet it. That a run with such a receiver meets the premises is proved ({}).'
 
 FILES = {
     'SAFETY': {
@@ -145,7 +145,7 @@ FILES = {
             'its stream of retransmissions is not the sender\'s own. The samples can be read again. Counted as they were sent, the first delivered datagram is among the first '
             '65,536, and each later one is less than `forward` above the highest delivered before it, and at most `backward` below. A delivered datagram that was sent before '
             'the first delivered one has an RTP time from 5 seconds before that of the first one up to it. Runs that meet this are proved (`premises_can_be_met`).',
-            'When a pop returns a unit (INTIME.txt). Anything about datagrams of others, or altered ones. A unit above `max_unit` counts as popped, although the receiver answers `TooLarge`.',
+            'When a pop returns a unit (INTIME.txt). Anything about datagrams of others, or altered ones. A unit above `max_unit` counts as popped, although the receiver answers `TooLarge`: `LargeUnits.antt` of codec_payload_timely_runs says of which units it does so.',
             'SAFETY.txt, then LOSS.txt; what they explain is only named here. Parts 1 and 2 are the theorem. Part 3 is the log with its waits, part 4 what is promised of each log, part 5 the '
             'values of header extensions.'),
         'parts': [('the premise', ['IsWithinWindows']), ('the log', ['WireLog']), ('what is promised of each log', ['AreStretches', 'AllFollowAsSaid', 'AllInTime', 'PopsAreBrought']),
@@ -180,7 +180,7 @@ FILES = {
             'The call returned Ok. For the written datagrams (`ForwardsStream`): the forwarder has not begun with the sender\'s stream, or has left out no packet of it, and no '
             'picture if ids are moved that close up. For the units also (`IsForwardedWithinWindows`): if the forwarder\'s codec is VP8 or VP9, the packetizer is of this codec; '
             'its payload type and SSRC have their widths; the receiver is new, for the viewer\'s stream; what is delivered to it is within its windows and timely; the samples can '
-            'be read again. The way to the forwarder has no premise. Runs that meet this are proved (`forwarding_premises_can_be_met`).',
+            'be read again. The way to the forwarder has no premise. That runs with stated results meet this is proved (`forwarding_premises_can_be_met`); a test finds these results.',
             'That the forwarder writes anything: one that waits for a keyframe for ever meets all of this. The clause `runs` of the function is exact. When a pop returns a unit.',
             'DATAGRAMS.txt first; what it explains is only named here. Then the clauses, `AreForwarded`, `viewer_packet` and `ReleasesToViewer`. The offsets are those of the forwarder after the '
             'run. Part 2 is the premise, part 3 the viewer\'s payload: how ids are moved.'),
@@ -201,8 +201,8 @@ FILES = {
             'the session took (`ReleasesServedWithStore`): the pops of the viewer return units of the samples, in order, each at most once, whole, and pop by pop as in DATAGRAMS.txt.',
             'The call returned Ok. For all of the second clause: if retransmissions come, the stream is the sender\'s (`UnwrapsSender`); the store is empty before; the forwarder is as in '
             'FORWARDED.txt. For the units those of FORWARDED.txt, of the steps after the session (`store_steps_of`), and `AreHeard`: if the forwarder has a stream of retransmissions, the receiver\'s '
-            'settings name it, with a payload type that is not 64 to 95. The first clause has no premise, except that its fields on streams and events need a new session. A run that meets '
-            'all this is proved (`serving_with_store_premises_can_be_met`).',
+            'settings name it, with a payload type that is not 64 to 95. The first clause has no premise, except that its fields on streams and events need a new session. That a run '
+            'with stated results meets all this is proved (`serving_with_store_premises_can_be_met`); a test finds these results.',
             'That the session takes a datagram, that the forwarder writes one, that a request is answered, and when.',
             'FORWARDED.txt and STREAM.txt first; what they explain is only named here. Part 1 is the theorem, part 2 the premises, part 3 the steps of the run behind the session, part 4 the calls of the session.'),
         'parts': [('the premises', ['IsStoredWithinWindows', 'UnwrapsStored']), ('the steps that viewer and store see', ['stored_steps_of', 'store_steps_of', 'store_steps']), ('the session', ['ServesStoreAsSession'])],

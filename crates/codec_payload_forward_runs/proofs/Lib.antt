@@ -18,6 +18,7 @@ pub mod MovedStreams
 pub mod MovedVp8
 pub mod PlainSteps
 pub mod SenderLemmas
+pub mod SettingsLemmas
 pub mod SourceLemmas
 pub mod StoreLemmas
 pub mod StoreReleaseLemmas

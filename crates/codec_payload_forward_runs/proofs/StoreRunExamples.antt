@@ -1,4 +1,4 @@
--- The premises of a run with a forwarder and a store can be met.
+-- A run with a forwarder and a store, and with these results, meets the premises.
 use Rattle.std.specs.Global.{Vec}
 use Rattle.std.proofs.Common.{◌≡◌, ◌∙◌, refl, sym, subst, ℕ, zero, suc, ◌<◌, Bool, true, List, [], ◌∷◌, inr, length, map, arith, lit<, lit≤}
 use Rattle.std.proofs.lemmas.List.{length-map}
@@ -11,15 +11,16 @@ use Rattle.codec_payload_datagram_runs.specs.WireRunExample.{at, frames_sent, on
 use Rattle.codec_payload_datagram_runs.specs.declared.run.DatagramStep.{DatagramStep}
 use Rattle.codec_payload_datagram_runs.specs.declared.run.DatagramStep.TheVariants as seen
 use Rattle.codec_payload_datagram_runs.specs.declared.run.SentSample.{SentSample}
+use Rattle.codec_payload_forward_runs.proofs.ForwardRunExamples as viewer
 use Rattle.codec_payload_forward_runs.proofs.StoreReleaseLemmas.{on}
 use Rattle.codec_payload_forward_runs.proofs.ViewerLemmas.{GoesOn}
 use Rattle.codec_payload_forward_runs.specs.ForwardReleases.{ForwardsStream, viewer_datagram, viewer_samples, viewer_sender, viewer_wire}
-use Rattle.codec_payload_forward_runs.specs.ForwardRunExample.{three_answers}
+use Rattle.codec_payload_forward_runs.specs.ForwardRunExample.{HasResults, three_answers}
 use Rattle.codec_payload_forward_runs.specs.StoreReleases.{IsStoredWithinWindows, ReleasesFromStore, store_steps, store_steps_of}
-use Rattle.codec_payload_forward_runs.specs.StoreRunExample.{PopsAllAgain, StoreCanBeMet, again_after, again_before, again_forwarder, again_receiver, again_settings, again_steps, again_viewer, empty_store, store_run_steps}
+use Rattle.codec_payload_forward_runs.specs.StoreRunExample.{PopsAllAgain, StoreCanBeMet, again_before, again_forwarder, again_receiver, again_settings, again_steps, again_viewer, empty_store, store_run_steps}
 use Rattle.codec_payload_forward_runs.specs.StoreRuns.{StoreRuns, Stored}
 
-forwards_stream : ForwardsStream opus_sender again_forwarder
+pub forwards_stream : ForwardsStream opus_sender again_forwarder
 forwards_stream = record { none_left_out = λ on. refl; none_closed = λ moves on. refl }
 
 -- the steps of the viewer, with these results
@@ -125,12 +126,32 @@ pops_all no_media t run e1 count e2 e3 released e4 =
     subst (λ (x : List ℕ). ReleasesUnits (viewer_samples e 48000 frames_sent) (store_steps_of frames_sent store_run_steps t x) (viewer_wire e (again_before no_media).hops.wire) (viewer_wire e t.hops.wire)) e4 r in
     (own, own.exactly all)
 
+-- what is said of a run with these results
+by_results : (P : List SentSample → List Forwarded → List Bool → Type 0) (t : Stored) → HasResults one_each three_answers t.hops → t.found ≡ true ∷ [] → P one_each three_answers (true ∷ [])
+    → P t.hops.wire.sends t.hops.answers t.found
+by_results P t has found here = viewer.by_results (λ es rs. P es rs t.found) one_each three_answers t.hops has (subst (P one_each three_answers) (sym found) here)
+
+pub meets : (no_media : Vec ℕ) (t : Stored) → t.hops.forwarder.settings ≡ again_settings → HasResults one_each three_answers t.hops → t.found ≡ true ∷ []
+    → IsStoredWithinWindows frames_sent store_run_steps (again_before no_media) t (1 ∷ [])
+meets no_media t settings has found = is_within no_media t (1 ∷ []) settings has.sent has.answers found refl
+
+pub keeps_settings : (no_media : Vec ℕ) (t : Stored) → StoreRuns frames_sent store_run_steps (again_before no_media) t → t.hops.forwarder.settings ≡ again_settings
+keeps_settings no_media t run =
+    let goes : GoesOn 7 again_forwarder t.hops.forwarder = on frames_sent store_run_steps opus_sender again_forwarder (again_receiver no_media) empty_store t refl run forwards_stream in
+    goes.settings
+
+pub all_come : (t : Stored) → HasResults one_each three_answers t.hops → t.found ≡ true ∷ [] → AllComeFirst 4096 3 (received_steps frames_sent 0 (again_steps t) t.hops.wire.sends)
+all_come t has found = by_results (λ es rs fs. AllComeFirst 4096 3 (received_steps frames_sent 0 (steps_by es rs fs (1 ∷ [])) es)) t has found all_first
+
+are_delivered : (t : Stored) → HasResults one_each three_answers t.hops → t.found ≡ true ∷ [] → delivered (received_steps frames_sent 0 (again_steps t) t.hops.wire.sends) ≡ 0 ∷ 2 ∷ 1 ∷ []
+are_delivered t has found = by_results (λ es rs fs. delivered (received_steps frames_sent 0 (steps_by es rs fs (1 ∷ [])) es) ≡ 0 ∷ 2 ∷ 1 ∷ []) t has found refl
+
 pub can_be_met : StoreCanBeMet
 can_be_met = record {
   empty = refl;
   forwards = forwards_stream;
-  within = λ no_media. is_within no_media (again_after no_media) (1 ∷ []) refl refl refl refl refl;
-  all_come = λ no_media. all_first;
-  are_delivered = λ no_media. refl;
+  within = λ no_media t run has found. meets no_media t (keeps_settings no_media t run) has found;
+  all_come = all_come;
+  are_delivered = are_delivered;
   all_popped = pops_all;
 }

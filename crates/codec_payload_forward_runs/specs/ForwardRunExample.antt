@@ -1,4 +1,4 @@
--- Runs with a forwarder that meet the premises: three frames of Opus, whose datagrams come in other orders on both hops, and a keyframe of
+-- Runs with a forwarder whose results meet the premises: three frames of Opus, whose datagrams come in other orders on both hops, and a keyframe of
 -- VP8, without picture ids and with them.
 use Rattle.std.specs.Global.{Vec}
 use Rattle.std.specs.Prelude.{◌≡◌, ℕ, ◌+◌, true, List, [], ◌∷◌, ◌++◌, Some, None}
@@ -22,10 +22,9 @@ use Rattle.codec_payload_vp8.specs.Vp8Sent.{header}
 use Rattle.codec_payload_vp8.specs.declared.vp8.depacketizer.Vp8Depacketizer.{Vp8Depacketizer}
 use Rattle.codec_payload_datagram_runs.specs.Releases.{AllComeFirst, delivered, received_steps}
 use Rattle.codec_payload_datagram_runs.specs.WireRunExample.{at, frame_at, frames_sent, one_each, one_sent, opus_sender, opus_settings}
-use Rattle.codec_payload_datagram_runs.specs.WireRuns.{begins as begins_wire}
 use Rattle.codec_payload_datagram_runs.specs.declared.run.SentSample.{SentSample}
 use Rattle.codec_payload_forward_runs.specs.ForwardReleases.{IsForwardedWithinWindows, viewer_steps_of}
-use Rattle.codec_payload_forward_runs.specs.ForwardRuns.{Hops, begins_forwarding}
+use Rattle.codec_payload_forward_runs.specs.ForwardRuns.{ForwardRuns, Hops, begins_forwarding}
 use Rattle.codec_payload_forward_runs.specs.declared.run.ForwardStep.{ForwardStep}
 use Rattle.codec_payload_forward_runs.specs.declared.run.ForwardStep.TheVariants as steps
 
@@ -67,9 +66,10 @@ viewer_receiver depacketizer no_media = session_with (viewer_settings no_media) 
 abbrev pub before_run : Sending → Codec → Session → Hops
 before_run sender codec session = begins_forwarding sender (forwarder_for codec) session
 
--- after a run that left this forwarder, with these results of sends and answers
-abbrev pub after_run : Sending → Forward → Session → List SentSample → List Forwarded → Hops
-after_run sender forwarder session sends results = record { wire = record (begins_wire sender session) { sends = sends }; forwarder = forwarder; written = []; answers = results }
+-- a run has these results of sends, and these answers of the forwarder
+pub record HasResults (sends : List SentSample) (answered : List Forwarded) (t : Hops) : Type 0 where
+  pub sent : t.wire.sends ≡ sends
+  pub answers : t.answers ≡ answered
 
 -- the third datagram comes to the forwarder before the second. Of what the forwarder wrote, the second comes to the viewer first, and
 -- comes again in the end
@@ -83,9 +83,6 @@ three_answers = answers.Began ∷ answers.Written ∷ answers.Written ∷ []
 
 abbrev pub opus_before : Vec ℕ → Hops
 opus_before no_media = before_run opus_sender codecs.Opus (viewer_receiver OpusDepacketizing no_media)
-
-abbrev pub opus_after : Vec ℕ → Hops
-opus_after no_media = after_run opus_sender (forwarder_after codecs.Opus 2 2880 1920) (viewer_receiver OpusDepacketizing no_media) one_each three_answers
 
 -- A keyframe of VP8, whose payload descriptor has no picture id
 
@@ -101,8 +98,8 @@ vp8_steps = steps.Send 0 ∷ steps.Forward 0 0 ∷ steps.Deliver 0 (at 40) ∷ s
 abbrev pub vp8_before : Vp8Depacketizer → Vec ℕ → Hops
 vp8_before d no_media = before_run vp8_sender codecs.Vp8 (viewer_receiver (Vp8Depacketizing d) no_media)
 
-abbrev pub vp8_after : Vp8Depacketizer → Vec ℕ → Hops
-vp8_after d no_media = after_run vp8_sender (forwarder_after codecs.Vp8 0 960 0) (viewer_receiver (Vp8Depacketizing d) no_media) one_sent (answers.Began ∷ [])
+abbrev pub one_answer : List Forwarded
+one_answer = answers.Began ∷ []
 
 -- The same keyframe from a packetizer whose picture ids begin at 300. The viewer gets the id 0, also in two bytes
 
@@ -116,9 +113,6 @@ ids_before d no_media = before_run ids_sender codecs.Vp8 (viewer_receiver (Vp8De
 abbrev pub ids_forwarder : Forward
 ids_forwarder = record (forwarder_after codecs.Vp8 0 960 0) { ids = record first_ids { offsets = record { picture = 32468; tl0 = 0 }; picture = 0 } }
 
-abbrev pub ids_after : Vp8Depacketizer → Vec ℕ → Hops
-ids_after d no_media = after_run ids_sender ids_forwarder (viewer_receiver (Vp8Depacketizing d) no_media) one_sent (answers.Began ∷ [])
-
 -- the payload of the keyframe's packet, and the payload that the viewer gets
 abbrev pub ids_payload : List ℕ
 ids_payload = header (Some 300) true true ++ (0x00 ∷ 0x01 ∷ 0x00 ∷ [])
@@ -126,12 +120,16 @@ ids_payload = header (Some 300) true true ++ (0x00 ∷ 0x01 ∷ 0x00 ∷ [])
 abbrev pub viewer_payload : List ℕ
 viewer_payload = 0x90 ∷ 0x80 ∷ 0x80 ∷ 0x00 ∷ 0x00 ∷ 0x01 ∷ 0x00 ∷ []
 
--- the premises can be met, and those of the promise that all units are popped too
+-- a run with these results meets the premises, and those of the promise that all units are popped too
 pub record ForwardingCanBeMet : Type 0 where
-  pub within : (no_media : Vec ℕ) → IsForwardedWithinWindows frames_sent forward_steps (opus_before no_media) (opus_after no_media)
-  pub all_come : (no_media : Vec ℕ) → AllComeFirst 4096 3 (received_steps frames_sent 0 (viewer_steps_of frames_sent forward_steps (opus_after no_media)) one_each)
-  pub vp8_within : (d : Vp8Depacketizer) (no_media : Vec ℕ) → IsForwardedWithinWindows vp8_frames vp8_steps (vp8_before d no_media) (vp8_after d no_media)
-  pub ids_within : (d : Vp8Depacketizer) (no_media : Vec ℕ) → IsForwardedWithinWindows vp8_frames vp8_steps (ids_before d no_media) (ids_after d no_media)
+  pub within : (no_media : Vec ℕ) (t : Hops) → ForwardRuns frames_sent forward_steps (opus_before no_media) t → HasResults one_each three_answers t
+      → IsForwardedWithinWindows frames_sent forward_steps (opus_before no_media) t
+  pub all_come : (t : Hops) → HasResults one_each three_answers t → AllComeFirst 4096 3 (received_steps frames_sent 0 (viewer_steps_of frames_sent forward_steps t) t.wire.sends)
+  pub vp8_within : (d : Vp8Depacketizer) (no_media : Vec ℕ) (t : Hops) → ForwardRuns vp8_frames vp8_steps (vp8_before d no_media) t → HasResults one_sent one_answer t
+      → IsForwardedWithinWindows vp8_frames vp8_steps (vp8_before d no_media) t
+  pub ids_within : (d : Vp8Depacketizer) (no_media : Vec ℕ) (t : Hops) → ForwardRuns vp8_frames vp8_steps (ids_before d no_media) t → HasResults one_sent one_answer t
+      → IsForwardedWithinWindows vp8_frames vp8_steps (ids_before d no_media) t
   pub ids_moved : payload_for codecs.Vp8 ids_forwarder.ids.offsets ids_payload ≡ viewer_payload
   -- the datagrams of the sender that come to the viewer
-  pub are_delivered : (no_media : Vec ℕ) → delivered (received_steps frames_sent 0 (viewer_steps_of frames_sent forward_steps (opus_after no_media)) one_each) ≡ 2 ∷ 0 ∷ 1 ∷ 2 ∷ []
+  pub are_delivered : (t : Hops) → HasResults one_each three_answers t
+      → delivered (received_steps frames_sent 0 (viewer_steps_of frames_sent forward_steps t) t.wire.sends) ≡ 2 ∷ 0 ∷ 1 ∷ 2 ∷ []

@@ -1,4 +1,4 @@
--- A run with a forwarder and a store that meets the premises: of three frames of Opus the second is lost on the second hop. The viewer
+-- A run with a forwarder and a store whose results meet the premises: of three frames of Opus the second is lost on the second hop. The viewer
 -- requests the frame's number, the forwarder writes the packet again, and the packet comes.
 use Rattle.std.specs.Global.{Vec}
 use Rattle.std.specs.Prelude.{◌≡◌, ℕ, true, List, [], ◌∷◌, Some, None, length}
@@ -16,7 +16,7 @@ use Rattle.codec_payload_datagram_runs.specs.Releases.{AllComeFirst, IsKnownOf, 
 use Rattle.codec_payload_datagram_runs.specs.WireRunExample.{at, frames_sent, one_each, opus_sender}
 use Rattle.codec_payload_datagram_runs.specs.declared.run.DatagramStep.{DatagramStep}
 use Rattle.codec_payload_forward_runs.specs.ForwardReleases.{ForwardsStream, viewer_samples, viewer_wire}
-use Rattle.codec_payload_forward_runs.specs.ForwardRunExample.{after_run, forward_settings, forwarder_after, forwarder_for, three_answers, viewer_settings}
+use Rattle.codec_payload_forward_runs.specs.ForwardRunExample.{HasResults, forward_settings, forwarder_for, three_answers, viewer_settings}
 use Rattle.codec_payload_forward_runs.specs.StoreReleases.{IsStoredWithinWindows, ReleasesFromStore, store_steps_of}
 use Rattle.codec_payload_forward_runs.specs.StoreRuns.{StoreRuns, Stored, begins_with_store}
 use Rattle.codec_payload_forward_runs.specs.declared.run.ForwardStep.TheVariants as plain
@@ -32,9 +32,6 @@ again_settings = record (forward_settings codecs.Opus) { retransmissions = Some 
 
 abbrev pub again_forwarder : Forward
 again_forwarder = record (forwarder_for codecs.Opus) { settings = again_settings; next = 7 }
-
-abbrev pub again_forwarder_after : Forward
-again_forwarder_after = record (forwarder_after codecs.Opus 2 2880 1920) { settings = again_settings; next = 8 }
 
 abbrev pub empty_store : Past
 empty_store = record { limit = 500; interval = 0; stream = None; next = 0; newest = 0; refused = None; packets = [] }
@@ -55,9 +52,6 @@ store_run_steps =
 abbrev pub again_before : Vec ℕ → Stored
 again_before no_media = begins_with_store opus_sender again_forwarder (again_receiver no_media) empty_store
 
-abbrev pub again_after : Vec ℕ → Stored
-again_after no_media = record (again_before no_media) { hops = after_run opus_sender again_forwarder_after (again_receiver no_media) one_each three_answers; found = true ∷ [] }
-
 -- the steps of the viewer, if the packet that was written again repeats the second datagram
 abbrev pub again_steps : Stored → List DatagramStep
 again_steps t = store_steps_of frames_sent store_run_steps t (1 ∷ [])
@@ -68,14 +62,17 @@ PopsAllAgain s t =
     (r : ReleasesUnits (viewer_samples t.hops.forwarder 48000 frames_sent) (again_steps t) (viewer_wire t.hops.forwarder s.hops.wire) (viewer_wire t.hops.forwarder t.hops.wire))
     × AnswersAll (IsKnownOf (viewer_samples t.hops.forwarder 48000 frames_sent) (again_steps t) (viewer_wire t.hops.forwarder s.hops.wire) (viewer_wire t.hops.forwarder t.hops.wire) r.units) 0 r.units t.hops.wire.pops
 
--- the premises of a run with a forwarder and a store can be met, also the premise under which all units are popped
+-- a run with these results meets the premises, also the premise under which all units are popped, if the packet that the forwarder writes
+-- again repeats the second one
 pub record StoreCanBeMet : Type 0 where
   pub empty : empty_store.packets ≡ []
   pub forwards : ForwardsStream opus_sender again_forwarder
-  pub within : (no_media : Vec ℕ) → IsStoredWithinWindows frames_sent store_run_steps (again_before no_media) (again_after no_media) (1 ∷ [])
-  pub all_come : (no_media : Vec ℕ) → AllComeFirst 4096 3 (received_steps frames_sent 0 (again_steps (again_after no_media)) one_each)
+  pub within : (no_media : Vec ℕ) (t : Stored) → StoreRuns frames_sent store_run_steps (again_before no_media) t → HasResults one_each three_answers t.hops → t.found ≡ true ∷ []
+      → IsStoredWithinWindows frames_sent store_run_steps (again_before no_media) t (1 ∷ [])
+  pub all_come : (t : Stored) → HasResults one_each three_answers t.hops → t.found ≡ true ∷ [] → AllComeFirst 4096 3 (received_steps frames_sent 0 (again_steps t) t.hops.wire.sends)
   -- the datagrams of the sender that come to the viewer
-  pub are_delivered : (no_media : Vec ℕ) → delivered (received_steps frames_sent 0 (again_steps (again_after no_media)) one_each) ≡ 0 ∷ 2 ∷ 1 ∷ []
+  pub are_delivered : (t : Stored) → HasResults one_each three_answers t.hops → t.found ≡ true ∷ []
+      → delivered (received_steps frames_sent 0 (again_steps t) t.hops.wire.sends) ≡ 0 ∷ 2 ∷ 1 ∷ []
   -- A run with this schedule pops all units, if each sample is sent in one datagram, the forwarder writes each of these, and the packet
   -- that the forwarder writes again repeats the second one
   pub all_popped : (no_media : Vec ℕ) (t : Stored) → StoreRuns frames_sent store_run_steps (again_before no_media) t → t.hops.wire.sends ≡ one_each → length t.hops.wire.datagrams ≡ 3

@@ -81,7 +81,7 @@ module _ (stream : OriginalStream) (samples : List Sample) where
     abbrev start : Serving Hops
     start = begins_serving_leaving_out sender forwarder receiver server
 
-    leaving : UnwrapsLeaving stream all_steps start → LeaveRuns samples (leaving_steps_of stream samples all_steps t) start.behind t.behind
+    pub leaving : UnwrapsLeaving stream all_steps start → LeaveRuns samples (leaving_steps_of stream samples all_steps t) start.behind t.behind
     leaving own =
         leaving_run (leaving_steps_of stream samples all_steps t) start.behind t.behind
         (follows hops_in PassesOrIsLeftOut left_as (DoesLeaveStep samples) stream samples behind (map step_of all_steps) start t (all_keep all_steps) refl refl refl (in_order all_steps start t run) own)

@@ -99,11 +99,13 @@ module _ (stream : OriginalStream) (samples : List Sample) where
     abbrev start : Serving Stored
     start = begins_serving_with_store sender forwarder receiver store server
 
+    pub storing : UnwrapsStored stream all_steps start → StoreRuns samples (stored_steps_of stream samples all_steps t) start.behind t.behind
+    storing own =
+        stored_run (stored_steps_of stream samples all_steps t) start.behind t.behind
+        (follows hops_in PassesToStore stored_as (DoesStoreStep samples) stream samples behind (map step_of all_steps) start t (all_keep all_steps) refl refl refl (in_order all_steps start t run) own)
+
     pub release_served_with_store : ReleasesServedWithStore stream samples all_steps start t
-    release_served_with_store own =
-        release_with_store samples (stored_steps_of stream samples all_steps t) sender forwarder receiver store t.behind
-        (stored_run (stored_steps_of stream samples all_steps t) start.behind t.behind
-        (follows hops_in PassesToStore stored_as (DoesStoreStep samples) stream samples behind (map step_of all_steps) start t (all_keep all_steps) refl refl refl (in_order all_steps start t run) own))
+    release_served_with_store own = release_with_store samples (stored_steps_of stream samples all_steps t) sender forwarder receiver store t.behind (storing own)
 
     pub served_store_session : ServesStoreAsSession stream samples all_steps start t
     served_store_session =

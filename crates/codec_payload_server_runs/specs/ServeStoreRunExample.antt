@@ -1,22 +1,24 @@
--- A run of a media server with a store that meets the premises: three frames of Opus. The datagram of the second one is lost on the first
+-- A run of a media server with a store whose results meet the premises: three frames of Opus. The datagram of the second one is lost on the first
 -- hop, and comes as a retransmission. It is lost on the second hop too: the viewer requests its number, and it comes from the store.
 use Rattle.std.specs.Global.{Vec}
-use Rattle.std.specs.Prelude.{◌≡◌, ℕ, List, [], ◌∷◌, None, Ok}
+use Rattle.std.specs.Prelude.{◌≡◌, ℕ, true, List, [], ◌∷◌, None, Ok}
 use Rattle.codec_payload_jitter.specs.declared.outcome.Outcome.TheVariants as outcomes
-use Rattle.codec_payload_session.specs.Ports.{Session, new_session}
+use Rattle.codec_payload_session.specs.Ports.{new_session}
 use Rattle.codec_payload_session_formats.specs.declared.formats.SessionSettings.{SessionSettings}
 use Rattle.codec_payload_session_stream.specs.declared.arrival.Arrival.TheVariants as arrivals
 use Rattle.codec_payload_datagram_runs.specs.Releases.{AllComeFirst, received_steps}
 use Rattle.codec_payload_datagram_runs.specs.WireRunExample.{at, frames_sent, one_each, opus_sender}
 use Rattle.codec_payload_forward_runs.specs.ForwardReleases.{ForwardsStream}
+use Rattle.codec_payload_forward_runs.specs.ForwardRunExample.{three_answers}
 use Rattle.codec_payload_forward_runs.specs.StoreReleases.{IsStoredWithinWindows, store_steps_of}
-use Rattle.codec_payload_forward_runs.specs.StoreRunExample.{again_after, again_before, again_forwarder, store_run_steps}
+use Rattle.codec_payload_forward_runs.specs.StoreRunExample.{again_before, again_forwarder, store_run_steps}
 use Rattle.codec_payload_forward_runs.specs.StoreRuns.{Stored}
 use Rattle.codec_payload_session_runs.specs.declared.run.SessionStep.TheVariants as calls
 use Rattle.codec_payload_session_runs.specs.declared.run.StepAnswer.{StepAnswer}
 use Rattle.codec_payload_session_runs.specs.declared.run.StepAnswer.TheVariants as answers
-use Rattle.codec_payload_server_runs.specs.ServeRunExample.{again_stream, moment, sent_stream}
+use Rattle.codec_payload_server_runs.specs.ServeRunExample.{HasServed, again_stream, moment, sent_stream}
 use Rattle.codec_payload_server_runs.specs.ServeStoreReleases.{UnwrapsStored, stored_steps_of}
+use Rattle.codec_payload_server_runs.specs.ServeStoreRuns.{ServeStoreRuns}
 use Rattle.codec_payload_server_runs.specs.Serving.{Serving}
 use Rattle.codec_payload_server_runs.specs.declared.run.ServeStep.TheVariants as serves
 use Rattle.codec_payload_server_runs.specs.declared.store_run.ServeStoreStep.{ServeStoreStep}
@@ -39,20 +41,19 @@ three_taken =
 abbrev pub store_before : SessionSettings → Vec ℕ → Serving Stored
 store_before settings no_media = record { behind = again_before no_media; server = new_session settings; answers = [] }
 
-abbrev pub store_after : Session → Vec ℕ → Serving Stored
-store_after server no_media = record { behind = again_after no_media; server = server; answers = three_taken }
+abbrev pub HasStoredOne : Serving Stored → Type 0
+HasStoredOne t = HasServed one_each three_answers three_taken t.behind.hops t.answers × (t.behind.found ≡ true ∷ [])
 
--- the premises can be met, also those of the promise that all units are popped
+-- a run with these results meets the premises, also those of the promise that all units are popped, if the packet that is written again
+-- repeats the second one
 pub record ServingWithStoreCanBeMet : Type 0 where
   pub unwraps : (settings : SessionSettings) (no_media : Vec ℕ) → UnwrapsStored sent_stream serve_store_steps (store_before settings no_media)
   pub empty : (settings : SessionSettings) (no_media : Vec ℕ) → (store_before settings no_media).behind.store.packets ≡ []
   pub forwards : ForwardsStream opus_sender again_forwarder
-  pub within : (settings : SessionSettings) (server : Session) (no_media : Vec ℕ)
-      → IsStoredWithinWindows frames_sent (stored_steps_of sent_stream frames_sent serve_store_steps (store_after server no_media)) (store_before settings no_media).behind
-      (store_after server no_media).behind (1 ∷ [])
-  pub all_come : (server : Session) (no_media : Vec ℕ)
+  pub within : (settings : SessionSettings) (no_media : Vec ℕ) (t : Serving Stored) → ServeStoreRuns sent_stream frames_sent serve_store_steps (store_before settings no_media) t → HasStoredOne t
+      → IsStoredWithinWindows frames_sent (stored_steps_of sent_stream frames_sent serve_store_steps t) (store_before settings no_media).behind t.behind (1 ∷ [])
+  pub all_come : (t : Serving Stored) → HasStoredOne t
       → AllComeFirst 4096 3
-      (received_steps frames_sent 0
-      (store_steps_of frames_sent (stored_steps_of sent_stream frames_sent serve_store_steps (store_after server no_media)) (store_after server no_media).behind (1 ∷ [])) one_each)
+      (received_steps frames_sent 0 (store_steps_of frames_sent (stored_steps_of sent_stream frames_sent serve_store_steps t) t.behind (1 ∷ [])) t.behind.hops.wire.sends)
   -- what comes to the forwarder and to the store
-  pub are_stored : (server : Session) (no_media : Vec ℕ) → stored_steps_of sent_stream frames_sent serve_store_steps (store_after server no_media) ≡ store_run_steps
+  pub are_stored : (t : Serving Stored) → HasStoredOne t → stored_steps_of sent_stream frames_sent serve_store_steps t ≡ store_run_steps

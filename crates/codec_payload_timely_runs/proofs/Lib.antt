@@ -6,3 +6,4 @@ pub mod TimelyRunExamples
 pub mod RedRunTimes
 pub mod OverdueLemmas
 pub mod AnswerLemmas
+pub mod LargeLemmas

@@ -1,5 +1,6 @@
-//! Theorems on the times at which units come. These functions exist for their proofs and do nothing.
+//! Theorems on the times at which units come, and on units above `max_unit`. These functions exist for their proofs and do nothing.
 
+ghost use Rattle.codec_payload_timely_runs.specs.LargeUnits.{CallsCountLarge, LogsTell, RunsCountLarge, RunsTellUnits, TellsLarge};
 ghost use Rattle.codec_payload_timely_runs.specs.Overdue.{PopsLeaveNoneOverdue};
 ghost use Rattle.codec_payload_timely_runs.specs.RedTimes.{TimesInRed, TimesInRedWithHistory};
 ghost use Rattle.codec_payload_timely_runs.specs.TimelyRunExample.{TimesCanBeMet};
@@ -35,4 +36,25 @@ pub fn units_come_in_time_in_red_with_history()
 /// first complete frame was not due. So it is for receivers and sessions whose limits change.
 pub fn pops_leave_none_overdue()
     ensures { PopsLeaveNoneOverdue }
+{}
+
+/// The log of a run says what each pop answered: a unit with more bytes than the receiver's bound as `Popped::TooLarge`, any other one
+/// as `Popped::Unit`. The log has both as units.
+pub fn logs_tell_large_units()
+    ensures { LogsTell }
+{}
+
+/// A receiver counts each unit above its bound, and nothing else changes the bound: of each call, and of a run over datagrams. There the
+/// counter `too_large` is how many units of the log are above `max_unit` of the settings.
+pub fn large_units_are_counted()
+    ensures calls { CallsCountLarge }
+    ensures runs { RunsCountLarge }
+{}
+
+/// If no unit that was sent is above `max_unit`, each unit that a pop returns is `Popped::Unit`. If all units are popped, exactly those
+/// above `max_unit` are `Popped::TooLarge`. This applies to each run whose pops release units in order: over datagrams, with
+/// retransmissions, in RED, with restarts, behind a forwarder or a media server.
+pub fn large_units_are_told()
+    ensures units { TellsLarge }
+    ensures runs { RunsTellUnits }
 {}

@@ -275,8 +275,8 @@ pub fn compare_with_theorem(run: &StoreRun) -> Result<(), Fail> {
     Ok(())
 }
 
-#[test]
-fn the_run_of_the_theorem_pops_all_frames() -> Result<(), Fail> {
+/// Executes the run of that theorem.
+pub fn run_of_theorem() -> Result<(), Fail> {
     let mut link = link_of_opus()?;
     compare_with_theorem(&run_forwarded_with_store(
         &mut link,

@@ -20,6 +20,7 @@ mod sides;
 mod switched;
 mod switched_back;
 mod with_ids;
+mod witness_runs;
 mod witnesses;
 
 /// Why a test fails.

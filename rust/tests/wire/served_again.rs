@@ -10,6 +10,7 @@ use crate::served::{LEAVES, Plan, STREAM, format_of, session, taken_by};
 use crate::sides::sender_of;
 use codec_payload::codec::NoBox;
 use codec_payload::history::{History, HistorySettings, OriginalStream, RetransmissionStream};
+use codec_payload::jitter::jitter_buffer::Outcome;
 use codec_payload::rtp::RtpPacket;
 use codec_payload::schedule::forwarded::StoreLink;
 use codec_payload::schedule::served::{
@@ -252,9 +253,14 @@ pub const OPUS_AGAIN: RetransmissionStream = RetransmissionStream {
 
 /// A session for these streams.
 pub fn session_of_opus() -> Result<Session, Fail> {
+    session_of(Codec::Opus)
+}
+
+/// A session for these streams, if they are of this codec.
+pub fn session_of(codec: Codec) -> Result<Session, Fail> {
     let mut settings = SessionSettings::live();
     settings.formats = vec![{
-        let mut format = format_of(111, Codec::Opus, 48_000)?;
+        let mut format = format_of(111, codec, 48_000)?;
         format.retransmission = Some(112);
         format
     }];
@@ -276,15 +282,15 @@ pub fn at(time: u64) -> Moment {
     }
 }
 
-/// Whether the session took the datagram of each answer as one of that stream.
-pub fn opus_taken(answers: &[StepAnswer]) -> Vec<bool> {
+/// Whether the session stored the datagram of each answer as one of that stream.
+pub fn opus_held(answers: &[StepAnswer]) -> Vec<bool> {
     let taken = answers.iter().map(|answer| {
         matches!(
             answer,
             StepAnswer::Received(Ok(Arrival::Stream {
                 ssrc: 7,
                 payload_type: 111,
-                ..
+                outcome: Outcome::Held
             }))
         )
     });
@@ -324,12 +330,12 @@ fn steps_of_theorem() -> Vec<ServeStoreStep> {
     steps
 }
 
-/// The theorem takes as given which datagrams the session takes, and the results of `store_premises_can_be_met`.
-#[test]
-fn the_run_of_the_theorem_pops_all_frames() -> Result<(), Fail> {
+/// Executes the run of that theorem, which takes as given which datagrams the session stores, and the results of
+/// `store_premises_can_be_met`.
+pub fn run_of_theorem() -> Result<(), Fail> {
     let mut link = link_of_theorem()?;
     let run = run_served_with_store(&mut link, &opus_samples()?, &steps_of_theorem())?;
-    assert_eq!(opus_taken(&run.answers), [true, false, true, true]);
+    assert_eq!(opus_held(&run.answers), [true, false, true, true]);
     assert!(matches!(run.answers[1], StepAnswer::Polled(None)));
     compare_with_theorem(&run.run)
 }

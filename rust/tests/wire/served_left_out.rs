@@ -4,17 +4,16 @@
 
 use crate::Fail;
 use crate::forwarded::{BLOCKS, copies, popped_in};
-use crate::forwarded_again::{link_of_opus, opus_samples};
 use crate::forwarded_left_out::{close_up, is_left_out};
 use crate::served::{LEAVES, Plan, STREAM, session, taken_by};
-use crate::served_again::{OPUS, OPUS_AGAIN, at, now_of, opus_taken, session_of_opus};
+use crate::served_again::{OPUS_AGAIN, at, now_of};
 use crate::with_ids::{FIRST_IDS, frame_of, link_from, samples};
 use codec_payload::codec::NoBox;
 use codec_payload::forward::Forwarded;
 use codec_payload::schedule::served::{
     ServeLeaveStep, ServeLink, ServeStep, ServedRun, run_served_leaving_out,
 };
-use codec_payload::session::runs::{SessionStep, StepAnswer};
+use codec_payload::session::runs::SessionStep;
 use codec_payload::wire::Ticks;
 
 fn link_of(id: u16) -> Result<ServeLink<NoBox, NoBox>, Fail> {
@@ -137,9 +136,9 @@ fn numbers_and_ids_close_up() -> Result<(), Fail> {
     Ok(())
 }
 
-/// The steps of the theorem that the premises can be met: the second datagram is lost on the first hop, comes as a retransmission, and is
+/// The steps of the theorem `serving_leaving_out_premises_can_be_met`: the second datagram is lost on the first hop, comes as a retransmission, and is
 /// left out. The viewer gets the other two in another order.
-fn steps_of_theorem() -> Vec<ServeLeaveStep> {
+pub fn steps_of_theorem() -> Vec<ServeLeaveStep> {
     let arrive = |datagram, time| ServeStep::Arrive {
         datagram,
         at: at(time),
@@ -174,29 +173,4 @@ fn steps_of_theorem() -> Vec<ServeLeaveStep> {
     let later = third.into_iter().chain(viewer);
     steps.extend(later.map(ServeLeaveStep::Plain));
     steps
-}
-
-/// The theorem takes these results of sends and of the forwarder as given, and which datagrams the session took.
-#[test]
-fn the_run_of_the_theorem_pops_the_other_frames() -> Result<(), Fail> {
-    let mut link = ServeLink {
-        link: link_of_opus()?.link,
-        session: session_of_opus()?,
-        stream: OPUS,
-    };
-    let run = run_served_leaving_out(&mut link, &opus_samples()?, &steps_of_theorem())?;
-    assert_eq!(opus_taken(&run.answers), [true, false, true, true]);
-    assert!(matches!(run.answers[1], StepAnswer::Polled(None)));
-    let sends = &run.run.run.sends;
-    assert_eq!(sends.len(), 3);
-    assert!(
-        sends
-            .iter()
-            .all(|sent| sent.count == 1 && sent.fault.is_none())
-    );
-    let answers = [Forwarded::Began, Forwarded::LeftOut, Forwarded::Written];
-    assert_eq!(run.run.answers, answers);
-    assert_eq!(popped_in(&run.run)?, [1, 2, 5]);
-    assert_eq!(run.run.run.pops.iter().flatten().count(), 2);
-    Ok(())
 }

@@ -7,7 +7,6 @@ use crate::forwarded::{copies, following, link_with};
 use crate::sides::{sample_of, sender_settings};
 use crate::with_ids::FIRST_IDS;
 use codec_payload::codec::{CodecPacketizer, NoBox};
-use codec_payload::forward::Forwarded;
 use codec_payload::rtp::RtpPacket;
 use codec_payload::schedule::forwarded::{
     ForwardStep, Source, SwitchLink, SwitchStep, SwitchedRun, run_forwarded_switching,
@@ -101,16 +100,6 @@ pub fn opus_link() -> Result<SwitchLink<NoBox, NoBox>, Fail> {
         link: link_with(Codec::Opus, sender(ssrc_of(Source::First))?)?,
         second: sender(ssrc_of(Source::Second))?,
     })
-}
-
-/// A source with this packetizer, whose frames have one datagram each.
-pub fn whole_frames(source: Source, pack: CodecPacketizer<NoBox>) -> Result<Sender<NoBox>, Fail> {
-    let settings = SenderSettings {
-        ssrc: ssrc_of(source),
-        mtu: 1_200,
-        ..sender_settings()?
-    };
-    Ok(Sender::new(pack, settings).map_err(|_| "settings out of range")?)
 }
 
 /// A datagram of a source.
@@ -363,83 +352,5 @@ fn all_frames_come_out_where_none_is_lost() -> Result<(), Fail> {
     let second = (8..16).map(|frame| sample_in(Source::Second, frame));
     let all: Vec<u8> = first.chain(second).flat_map(bytes_of).collect();
     assert_eq!(popped_in(&run)?, all);
-    Ok(())
-}
-
-/// The last steps of the runs of both theorems: three datagrams are delivered, the last two in the other order, and all units are popped.
-pub fn ends_of_theorem() -> impl Iterator<Item = SwitchStep> {
-    let deliver = |(written, now)| ForwardStep::Deliver {
-        written,
-        now: Ticks(now),
-    };
-    let delivers = [(0, 40), (2, 41), (1, 42)].map(deliver);
-    let pops = [ForwardStep::Pop { now: Ticks(43) }; 3];
-    let steps = delivers.into_iter().chain([ForwardStep::Finish]);
-    steps
-        .chain(pops)
-        .map(|step| SwitchStep::Of(Source::First, step))
-}
-
-/// Two sources of Opus, and two of VP8 with picture ids.
-pub fn links_of_theorem() -> Result<[SwitchLink<NoBox, NoBox>; 2], Fail> {
-    let opus = || CodecPacketizer::from_codec(Codec::Opus).ok_or("no packetizer");
-    let vp8 = || CodecPacketizer::Vp8(Vp8Packetizer::with_picture_id(300));
-    let link = |codec, one, two| -> Result<_, Fail> {
-        Ok(SwitchLink {
-            link: link_with(codec, whole_frames(Source::First, one)?)?,
-            second: whole_frames(Source::Second, two)?,
-        })
-    };
-    Ok([
-        link(Codec::Opus, opus()?, opus()?)?,
-        link(Codec::Vp8, vp8(), vp8())?,
-    ])
-}
-
-/// The samples that have these frames, 960 ticks apart.
-pub fn samples_of_theorem(frames: &[[u8; 3]]) -> Vec<ToPayload> {
-    (1..)
-        .zip(frames)
-        .map(|(place, frame)| sample_of(place * 960, frame))
-        .collect()
-}
-
-/// The steps of the theorem `switched_units_premises_can_be_met`: of the second source the second and third frame come to the viewer.
-fn steps_of_theorem() -> Vec<SwitchStep> {
-    let sent = |source, frame, now| {
-        let datagram = if source == Source::First { 0 } else { frame };
-        [
-            SwitchStep::Of(source, ForwardStep::Send(frame)),
-            SwitchStep::Of(source, ForwardStep::Forward { datagram, now }),
-        ]
-    };
-    let mut steps = Vec::from(sent(Source::First, 0, 0));
-    steps.extend(sent(Source::Second, 0, 960));
-    steps.push(SwitchStep::Want { ssrc: 9 });
-    steps.extend(sent(Source::Second, 1, 1_920));
-    steps.extend(sent(Source::Second, 2, 2_880));
-    steps.extend(ends_of_theorem());
-    steps
-}
-
-#[test]
-fn the_runs_of_the_theorem_go_over() -> Result<(), Fail> {
-    let frames = [[0, 1, 0], [0, 1, 1], [1, 2, 2]];
-    for mut link in links_of_theorem()? {
-        let samples = samples_of_theorem(&frames);
-        let run = run_forwarded_switching(&mut link, &samples, &steps_of_theorem())?;
-        let answers = [
-            Forwarded::Began,
-            Forwarded::OtherSource,
-            Forwarded::Began,
-            Forwarded::Written,
-        ];
-        assert_eq!(run.run.answers, answers);
-        assert_eq!(
-            (run.run.run.datagrams.len(), run.second.datagrams.len()),
-            (1, 3)
-        );
-        assert_eq!(popped_in(&run)?, frames.concat());
-    }
     Ok(())
 }

@@ -8,10 +8,8 @@ use std::ops::Range;
 use crate::Fail;
 use crate::forwarded::{copies, following};
 use crate::switched::{
-    BLOCKS, IDS, bytes_of, ends_of_theorem, link_of, links_of_theorem, opus_link, popped_in,
-    sample_in, samples, samples_of_theorem, ssrc_of,
+    BLOCKS, IDS, bytes_of, link_of, opus_link, popped_in, sample_in, samples, ssrc_of,
 };
-use codec_payload::forward::Forwarded;
 use codec_payload::rtp::RtpPacket;
 use codec_payload::schedule::forwarded::{
     ForwardStep, Source, SwitchStep, run_forwarded_switching,
@@ -211,47 +209,6 @@ fn each_written_datagram_has_the_number_of_its_place() -> Result<(), Fail> {
                 65_000_u16.wrapping_add((base + datagram - stretch.datagrams.start) as u16);
             assert_eq!(got.header.sequence_number, number, "seed {seed}");
         }
-    }
-    Ok(())
-}
-
-/// The steps of the theorem `switched_back_premises_can_be_met`: a frame of the first source, the second frame of the second source, and
-/// the third of the first come to the viewer.
-fn steps_of_theorem() -> Vec<SwitchStep> {
-    let sent = |source, datagram, now| {
-        [
-            SwitchStep::Of(source, ForwardStep::Send(datagram)),
-            SwitchStep::Of(source, ForwardStep::Forward { datagram, now }),
-        ]
-    };
-    let mut steps = Vec::from(sent(Source::First, 0, 0));
-    steps.extend(sent(Source::Second, 0, 960));
-    steps.push(SwitchStep::Want { ssrc: 9 });
-    steps.extend(sent(Source::Second, 1, 1_920));
-    steps.extend(sent(Source::First, 1, 2_880));
-    steps.push(SwitchStep::Want { ssrc: 7 });
-    steps.extend(sent(Source::First, 2, 3_840));
-    steps.extend(ends_of_theorem());
-    steps
-}
-
-#[test]
-fn the_runs_of_the_theorem_go_back() -> Result<(), Fail> {
-    let frames = [[0, 1, 0], [0, 1, 1], [0, 2, 2]];
-    for mut link in links_of_theorem()? {
-        let samples = samples_of_theorem(&frames);
-        let run = run_forwarded_switching(&mut link, &samples, &steps_of_theorem())?;
-        let answers = [
-            Forwarded::Began,
-            Forwarded::OtherSource,
-            Forwarded::Began,
-            Forwarded::OtherSource,
-            Forwarded::Began,
-        ];
-        assert_eq!(run.run.answers, answers);
-        let sent = (run.run.run.datagrams.len(), run.second.datagrams.len());
-        assert_eq!(sent, (3, 2));
-        assert_eq!(popped_in(&run)?, frames.concat());
     }
     Ok(())
 }

@@ -1,16 +1,21 @@
-//! The runs of the theorems `*premises_can_be_met`, which have values of samples, steps, parts and results: the parts are made by their
-//! constructors, the runs are executed, and have these results. The theorems of runs with a store or with units behind a switch have
-//! their tests beside those of such runs (`forwarded_again`, `served_again`, `served_left_out`, `switched`, `switched_back`).
+//! The runs of the theorems that premises can be met. A theorem has values of samples, steps, parts and results, and says: a run with
+//! these results meets the premises. Each test makes the parts by their constructors, executes the run, and finds these results.
+//!
+//! The fifteen theorems, each with a test of the same name (`scripts/documents.py` compares the names with the theorems): in this file
+//! `premises_can_be_met`, `times_can_be_met`, `history_premises_can_be_met`, `restart_premises_can_be_met`, `red_premises_can_be_met`,
+//! `red_history_premises_can_be_met`, `forwarding_premises_can_be_met`, `leaving_premises_can_be_met` and
+//! `switching_premises_can_be_met`; in `witness_runs` `store_premises_can_be_met`, `switched_units_premises_can_be_met`,
+//! `switched_back_premises_can_be_met`, `serving_premises_can_be_met`, `serving_with_store_premises_can_be_met` and
+//! `serving_leaving_out_premises_can_be_met`.
 
 use crate::Fail;
-use crate::forwarded_again::{link_of_opus, opus_samples};
-use crate::served_again::{OPUS, OPUS_AGAIN, at, session_of_opus};
+use crate::forwarded_again::opus_samples;
 use crate::sides::{receiver_settings, sender_settings};
 use codec_payload::buffer::Depacketized;
 use codec_payload::codec::{CodecDepacketizer, CodecPacketizer, NoBox};
 use codec_payload::forward::{ForwardSettings, Forwarded, Forwarder};
 use codec_payload::history::{History, HistorySettings, Resent, RetransmissionStream};
-use codec_payload::jitter::jitter_buffer::{Outcome, WaitLimits};
+use codec_payload::jitter::jitter_buffer::WaitLimits;
 use codec_payload::red_writer::RedWriter;
 use codec_payload::rtp::{ExtensionIds, RtpPacket};
 use codec_payload::schedule::datagrams::{
@@ -21,10 +26,7 @@ use codec_payload::schedule::forwarded::{
     ForwardLink, ForwardStep, ForwardedRun, LeaveStep, Source, SwitchLink, SwitchStep,
     run_forwarded, run_forwarded_leaving_out, run_forwarded_switching,
 };
-use codec_payload::schedule::served::{ServeLink, ServeStep, run_served};
 use codec_payload::sender::{Sender, SenderSettings};
-use codec_payload::session::Arrival;
-use codec_payload::session::runs::{SessionStep, StepAnswer};
 use codec_payload::stream::RedSettings;
 use codec_payload::stream::receiver::{Receiver, ReceiverSettings, Retransmission};
 use codec_payload::vp8::Vp8Packetizer;
@@ -56,7 +58,10 @@ fn pop(now: u64) -> DatagramStep {
 }
 
 /// A sender whose numbers begin with 65,535, with these changes of its settings.
-fn sender(codec: Codec, change: impl FnOnce(&mut SenderSettings)) -> Result<Sender<NoBox>, Fail> {
+pub fn sender(
+    codec: Codec,
+    change: impl FnOnce(&mut SenderSettings),
+) -> Result<Sender<NoBox>, Fail> {
     let mut settings = SenderSettings {
         payload_type: 111,
         clock_rate: Frequency::make(48_000).ok_or("a rate")?,
@@ -68,14 +73,15 @@ fn sender(codec: Codec, change: impl FnOnce(&mut SenderSettings)) -> Result<Send
     Ok(Sender::new(packetizer, settings).map_err(|_| "settings out of range")?)
 }
 
-/// A sender of VP8 whose picture ids begin with 300.
-fn sender_of_ids() -> Result<Sender<NoBox>, Fail> {
-    let settings = SenderSettings {
+/// A sender of VP8 whose picture ids begin with 300, with these changes of its settings.
+pub fn sender_of_ids(change: impl FnOnce(&mut SenderSettings)) -> Result<Sender<NoBox>, Fail> {
+    let mut settings = SenderSettings {
         payload_type: 111,
         clock_rate: Frequency::make(48_000).ok_or("a rate")?,
         mtu: 1_200,
         ..sender_settings()?
     };
+    change(&mut settings);
     let packetizer = CodecPacketizer::Vp8(Vp8Packetizer::with_picture_id(300));
     Ok(Sender::new(packetizer, settings).map_err(|_| "settings out of range")?)
 }
@@ -104,7 +110,7 @@ fn receiver(
 }
 
 /// Samples with these times of 48 kHz and bytes.
-fn samples(frames: &[(u64, &[u8])]) -> Result<Vec<ToPayload>, Fail> {
+pub fn samples(frames: &[(u64, &[u8])]) -> Result<Vec<ToPayload>, Fail> {
     let rate = Frequency::make(48_000).ok_or("a rate")?;
     let made = frames.iter().map(|(ticks, frame)| ToPayload {
         pt: Pt::new_with_value(111),
@@ -116,7 +122,7 @@ fn samples(frames: &[(u64, &[u8])]) -> Result<Vec<ToPayload>, Fail> {
 
 /// Each sample was sent in one datagram.
 #[track_caller]
-fn sent_one_each(run: &DatagramRun, count: usize) {
+pub fn sent_one_each(run: &DatagramRun, count: usize) {
     assert!(
         run.sends
             .iter()
@@ -126,7 +132,7 @@ fn sent_one_each(run: &DatagramRun, count: usize) {
 }
 
 /// The units of the pops.
-fn units(run: &DatagramRun) -> Result<Vec<Vec<u8>>, Fail> {
+pub fn units(run: &DatagramRun) -> Result<Vec<Vec<u8>>, Fail> {
     let mut found = Vec::new();
     for answer in run.pops.iter().flatten() {
         found.push(answer.as_ref().map_err(|_| "a fault")?.bytes.clone());
@@ -135,7 +141,7 @@ fn units(run: &DatagramRun) -> Result<Vec<Vec<u8>>, Fail> {
 }
 
 /// The three frames of Opus.
-const FRAMES: [&[u8]; 3] = [&[1, 2], &[3, 4], &[5]];
+pub const FRAMES: [&[u8]; 3] = [&[1, 2], &[3, 4], &[5]];
 
 #[test]
 fn premises_can_be_met() -> Result<(), Fail> {
@@ -354,7 +360,7 @@ fn red_history_premises_can_be_met() -> Result<(), Fail> {
 }
 
 /// A sender, a forwarder that wants its stream, and the receiver of a viewer.
-fn forward_link(codec: Codec) -> Result<ForwardLink<NoBox, NoBox>, Fail> {
+pub fn forward_link(codec: Codec) -> Result<ForwardLink<NoBox, NoBox>, Fail> {
     let mut forwarder = Forwarder::new(ForwardSettings {
         codec,
         ssrc: 9,
@@ -371,11 +377,11 @@ fn forward_link(codec: Codec) -> Result<ForwardLink<NoBox, NoBox>, Fail> {
     })
 }
 
-fn forward(datagram: usize, now: u64) -> ForwardStep {
+pub fn forward(datagram: usize, now: u64) -> ForwardStep {
     ForwardStep::Forward { datagram, now }
 }
 
-fn deliver_written(written: usize, now: u64) -> ForwardStep {
+pub fn deliver_written(written: usize, now: u64) -> ForwardStep {
     ForwardStep::Deliver {
         written,
         now: Ticks(now),
@@ -383,7 +389,7 @@ fn deliver_written(written: usize, now: u64) -> ForwardStep {
 }
 
 /// Number, time and payload of each written datagram.
-fn written(run: &ForwardedRun) -> Result<Vec<(u16, u32, Vec<u8>)>, Fail> {
+pub fn written(run: &ForwardedRun) -> Result<Vec<(u16, u32, Vec<u8>)>, Fail> {
     let mut found = Vec::new();
     for datagram in &run.written {
         let packet = RtpPacket::parse(datagram)?;
@@ -447,7 +453,7 @@ fn forwarding_premises_can_be_met_by_a_keyframe() -> Result<(), Fail> {
     ];
     let plain = forward_link(Codec::Vp8)?;
     let with_ids = ForwardLink {
-        sender: sender_of_ids()?,
+        sender: sender_of_ids(|_| {})?,
         ..forward_link(Codec::Vp8)?
     };
     let seen = [&[0x10, 0, 1, 0][..], &[0x90, 0x80, 0x80, 0, 0, 1, 0]];
@@ -478,7 +484,7 @@ fn leaving_premises_can_be_met() -> Result<(), Fail> {
         pop,
     ];
     let ids = ForwardLink {
-        sender: sender_of_ids()?,
+        sender: sender_of_ids(|_| {})?,
         ..forward_link(Codec::Vp8)?
     };
     let of_vp8 = [(960, &[0, 1, 0][..]), (1_920, &[1]), (2_880, &[1, 2])];
@@ -542,60 +548,5 @@ fn switching_premises_can_be_met() -> Result<(), Fail> {
     );
     let numbers: Vec<_> = written(&run.run)?.into_iter().map(|it| it.0).collect();
     assert_eq!(numbers, [100, 101]);
-    Ok(())
-}
-
-#[test]
-fn serving_premises_can_be_met() -> Result<(), Fail> {
-    let link = link_of_opus()?.link;
-    let mut link = ServeLink {
-        link: ForwardLink {
-            forwarder: forward_link(Codec::Opus)?.forwarder,
-            ..link
-        },
-        session: session_of_opus()?,
-        stream: OPUS,
-    };
-    let pop = || ServeStep::Pop { now: Ticks(82) };
-    let deliver = |written, now| ServeStep::Deliver {
-        written,
-        now: Ticks(now),
-    };
-    let steps = [
-        ServeStep::Send(0),
-        ServeStep::Arrive {
-            datagram: 0,
-            at: at(20),
-        },
-        ServeStep::Send(1),
-        ServeStep::Call(SessionStep::Poll { now: Ticks(40) }),
-        ServeStep::Repeat {
-            datagram: 1,
-            again: OPUS_AGAIN,
-            at: at(60),
-        },
-        deliver(1, 80),
-        deliver(0, 81),
-        ServeStep::Finish,
-        pop(),
-        pop(),
-    ];
-    let frames = samples(&[(960, FRAMES[0]), (1_920, FRAMES[1])])?;
-    let run = run_served(&mut link, &frames, &steps)?;
-    sent_one_each(&run.run.run, 2);
-    let taken = |it: &StepAnswer| {
-        matches!(
-            it,
-            StepAnswer::Received(Ok(Arrival::Stream {
-                ssrc: 7,
-                payload_type: 111,
-                outcome: Outcome::Held
-            }))
-        )
-    };
-    assert!(taken(&run.answers[0]) && taken(&run.answers[2]));
-    assert!(matches!(run.answers[1], StepAnswer::Polled(None)));
-    assert_eq!(run.run.answers, [Forwarded::Began, Forwarded::Written]);
-    assert_eq!(units(&run.run.run)?, FRAMES[..2]);
     Ok(())
 }
