@@ -133,7 +133,7 @@ endif
 
 # The tests and three examples: each is a program over the archive. `strict=-Werror` is how the repository builds them.
 programs = $(addprefix $(tests)/,first $(if $(windows),shared,loopback port) \
-    checks datagrams lending session history forward waiting congestion rtcp packets values bindings vectors frames oom forward_oom beyond descriptions)
+    checks datagrams lending session history forward waiting congestion paths reports rtcp packets values bindings vectors frames oom forward_oom beyond descriptions)
 
 ifneq ($(windows),)
 # A program over the DLL, which stands beside it; and the division, which is not a call of the library.

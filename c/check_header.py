@@ -22,7 +22,7 @@ import os
 import re
 import sys
 
-CRATES = ["codec_payload_c", "codec_payload_c_packets", "codec_payload_c_receiving", "codec_payload_handle"]
+CRATES = ["codec_payload_c", "codec_payload_c_packets", "codec_payload_c_path", "codec_payload_c_receiving", "codec_payload_handle"]
 ROOT = os.path.dirname(os.path.dirname(os.path.realpath(__file__)))
 NUMBERS = {
     **{f"u{bits}": f"uint{bits}_t" for bits in (8, 16, 32, 64)},
@@ -37,6 +37,11 @@ KINDS = [
     "cpay_packetizer", "cpay_buffer", "cpay_depacketizer", "cpay_red_sender", "cpay_sender", "cpay_history", "cpay_forwarder",
     "cpay_receiver", "cpay_adaptive_wait", "cpay_freezes", "cpay_transport_reporter", "cpay_sent_packets", "cpay_session",
 ]
+# The same for the handles of codec_payload_c_path, which have another call to free them.
+PATH_KINDS = ["cpay_path", "cpay_resend_limit", "cpay_packet_store"]
+ALL_KINDS = [*KINDS[:-1], *PATH_KINDS, KINDS[-1]]
+# Types of handles that are the same in C.
+SAME = {"PathHandle": "Handle"}
 # The enums of the header.
 ENUMS = set()
 # Outputs that may be NULL: the call, and the parameter.
@@ -68,6 +73,7 @@ static uint64_t nothing[2];
 uint32_t cpay_version(void) { return CPAY_VERSION; }
 
 void proved_cpay_free(cpay_handle *handle);
+void proved_cpay_path_object_free(cpay_handle *handle);
 """
 
 
@@ -88,7 +94,7 @@ def split(text):
 
 
 def c_name(rust):
-    return "cpay_" + re.sub(r"(?<=[a-z0-9])([A-Z])", r"_\1", rust).lower()
+    return "cpay_" + re.sub(r"(?<=[a-z0-9])([A-Z])", r"_\1", SAME.get(rust, rust)).lower()
 
 
 def c_type(rust):
@@ -171,16 +177,17 @@ def number(kind):
 
 def plain(functions, structs):
     """The header's functions and structs with handles and numbers instead of its types and enums."""
-    frees = {f"{kind}_free" for kind in KINDS}
-    plain_functions = {"cpay_free": ("void", [("cpay_handle *", "handle")])} if frees <= functions.keys() else {}
+    frees = {f"{kind}_free" for kind in ALL_KINDS}
+    free = ("void", [("cpay_handle *", "handle")])
+    plain_functions = {"cpay_free": free, "cpay_path_object_free": free} if frees <= functions.keys() else {}
     for name, (answer, params) in functions.items():
         if name not in {*frees, VERSION}:
             params = [
-                ("cpay_handle *", one if place else "handle") if kind.removesuffix(" *") in KINDS else (number(kind), one)
+                ("cpay_handle *", one if place else "handle") if kind.removesuffix(" *") in ALL_KINDS else (number(kind), one)
                 for place, (kind, one) in enumerate(params)
             ]
             plain_functions[name] = (number(answer), params)
-    plain_structs = {name: [(number(kind), one) for kind, one in fields] for name, fields in structs.items() if name not in KINDS}
+    plain_structs = {name: [(number(kind), one) for kind, one in fields] for name, fields in structs.items() if name not in ALL_KINDS}
     return plain_functions, plain_structs
 
 
@@ -205,17 +212,18 @@ def wrapped(start, parts, end, indent):
 def calls(functions):
     """The text of c/src/calls.c."""
     text = [CALLS_BEGIN]
-    for kind in KINDS:
+    for kind in ALL_KINDS:
+        free = "cpay_path_object_free" if kind in PATH_KINDS else "cpay_free"
         text.append(f"void {kind}_free({kind} *{kind.split('_')[-1]}) {{\n    if ({kind.split('_')[-1]}) "
-                    f"proved_cpay_free(&{kind.split('_')[-1]}->handle);\n}}\n")
+                    f"proved_{free}(&{kind.split('_')[-1]}->handle);\n}}\n")
     for name, (answer, params) in functions.items():
         if name.endswith("_free") or name == VERSION:
             continue
         lengths = {one for _, one in params}
         given, refused, declared, unused = [], [], [], []
         for kind, one in params:
-            declared.append((("cpay_handle *" if kind.removesuffix(" *") in KINDS else kind) + " " + one).replace("* ", "*"))
-            if kind.removesuffix(" *") in KINDS:
+            declared.append((("cpay_handle *" if kind.removesuffix(" *") in ALL_KINDS else kind) + " " + one).replace("* ", "*"))
+            if kind.removesuffix(" *") in ALL_KINDS:
                 given.append(f"&{one}->handle")
             elif f"{one}_len" in lengths:
                 refused.append(f"(!{one} && {one}_len)")
@@ -240,7 +248,7 @@ def calls(functions):
 
 def created():
     """For each type of handle: its name, the declaration of *_create as the header has it, and the name of the handle."""
-    for kind in KINDS:
+    for kind in ALL_KINDS:
         _, params = header()[0][f"{kind}_new"]
         name, start = kind.split("_")[-1], f"cpay_status {kind}_create("
         rest = [f"{of} {one}".replace("* ", "*") for of, one in params[1:]]
@@ -266,7 +274,7 @@ def wrong_bindings():
         if f"CPAY_CHECKED {start}{', '.join(parts)});" not in text or f"void {kind}_destroy({kind} *{name});" not in text:
             yield f"include/codec_payload_bindings.h: no {kind}_create and {kind}_destroy as {kind}_new asks for"
     for call, (_, params) in header()[0].items():
-        if params and params[0][0].removesuffix(" *") in KINDS and not re.search(rf"\b{call}\b", plus):
+        if params and params[0][0].removesuffix(" *") in ALL_KINDS and not re.search(rf"\b{call}\b", plus):
             yield f"include/codec_payload.hpp: no {call}"
 
 
@@ -350,7 +358,7 @@ def main():
         wrong.append("header: the example is not that of examples/first.c")
     if f"```c\n{read('examples/first.c')}```\n" not in read("docs/use/C.md"):
         wrong.append("docs/use/C.md: the example is not that of examples/first.c")
-    wrong += [f"header: {kind} is not one handle" for kind in KINDS if written_structs.get(kind) != HANDLE]
+    wrong += [f"header: {kind} is not one handle" for kind in ALL_KINDS if written_structs.get(kind) != HANDLE]
     if read("c/src/calls.c") != calls(as_written):
         wrong.append("c/src/calls.c is not what check_header.py --calls prints")
     wrong += [f"c/tests/beyond.c does not call {name}" for name in taking_memory() if f"{name}(" not in read("c/tests/beyond.c")]

@@ -25,16 +25,20 @@
  *
  * STATUSES. A call returns a status; a few return a bool or a number. 0 is success, 1 to 17 are errors of payloads and of
  * memory, 32 to 41 are the library's own, 42 to 65 say why a datagram is not accepted, 66 to 73 why feedback is not read, and
- * 74 and 75 why a datagram gets no number; 76 is a unit above the bound. The enum below names them. If a call fails, its output
- * buffer and its other output arguments are unchanged. Exception: with CPAY_TOO_SMALL it writes the required size, and the other
- * outputs except the bytes, unless its comment says otherwise.
+ * 74 and 75 why a datagram gets no number; 76 is a unit above the bound, 77 a full queue, 78 to 81
+ * say why feedback of RFC 8888 is not read, and 82 to 86 why a packet of FEC is not. The enum below names them. If a call fails,
+ * its output buffer and its other output arguments are unchanged. Exception: with CPAY_TOO_SMALL it writes the required size, and
+ * the other outputs except the bytes, unless its comment says otherwise.
  *
  * HANDLES. A packetizer, a depacketizer, a buffer, a RED sender, a sender, a history, a forwarder, a receiver, an adaptive
- * wait, a counter of freezes, a transport reporter, the sent packets of a transport and a session each live in a handle: a struct
- * of that type in your own memory. Initialise it with CPAY_INIT, create the object by the call named *_new, and end with the call
- * named *_free, which leaves the handle empty. You may free an empty handle. Other calls on an empty handle return CPAY_EMPTY;
- * calls on a handle of another type, as after a cast, return CPAY_OTHER_KIND. Never write into a handle. Never copy a handle in
- * use: the library cannot detect that another copy was freed. You may move it in memory if you forget the old place.
+ * wait, a counter of freezes, a transport reporter, the sent packets of a transport, a path, a resend limit, a packet store and a
+ * session each live in a handle: a struct of that type in your own memory. Initialise it with CPAY_INIT, create the object by the
+ * call named *_new, and end with the call named *_free, which leaves the handle empty. You may free an empty handle. Other calls on
+ * an empty handle return CPAY_EMPTY; calls on a handle of another type, as after a cast, return CPAY_OTHER_KIND. Exception: a path,
+ * a resend limit and a packet store recognise each other alone; never cast one to a type other than these three, or a handle of
+ * another type to one of them.
+ * Never write into a handle. Never copy a handle in use: the library cannot detect that another copy was freed. You may move it in
+ * memory if you forget the old place.
  *
  * MEMORY. The library allocates with the program's malloc and realloc and releases with free, only in calls marked [m]. These
  * functions must belong to one allocator. Each block must be aligned for the type stored in it, at most 8 bytes, as in glibc, musl,
@@ -190,7 +194,17 @@ typedef enum {
     CPAY_TRANSPORT_DELTAS_TOO_SHORT = 73, /**< it ends before the delta of a packet that arrived */
     CPAY_EXTENSION_PROFILE = 74, /**< a header extension has another profile than those of RFC 8285 */
     CPAY_EXTENSION_ROOM = 75,    /**< a header extension has no room for the number, or its id is 0 */
-    CPAY_UNIT_TOO_LARGE = 76           /**< a unit has more bytes than the settings of its receiver allow */
+    CPAY_UNIT_TOO_LARGE = 76,    /**< a unit has more bytes than the settings of its receiver allow */
+    CPAY_QUEUE_FULL = 77,        /**< with this packet more bytes than the settings of a path allow would wait to leave */
+    CPAY_CCFB_TOO_SHORT = 78, /**< 78 to 81 say why feedback of RFC 8888 is not read: it has fewer than 8 bytes */
+    CPAY_CCFB_BLOCK_TOO_SHORT = 79,   /**< it ends inside the first 8 bytes of a block */
+    CPAY_CCFB_TOO_MANY = 80,          /**< a block reports on more than 16384 packets */
+    CPAY_CCFB_METRICS_TOO_SHORT = 81, /**< it ends inside the packets of a block */
+    CPAY_FEC_HEADER_TOO_SHORT = 82, /**< 82 to 86 say why a packet of FEC is not read: it has fewer than 10 bytes */
+    CPAY_FEC_EXTENDED = 83,         /**< its extension flag is set, which the RFC reserves */
+    CPAY_FEC_LEVEL_TOO_SHORT = 84,  /**< it ends inside the header of level 0 */
+    CPAY_FEC_EMPTY_MASK = 85,       /**< it protects no packet */
+    CPAY_FEC_PAYLOAD_TOO_SHORT = 86 /**< it ends inside the payload of level 0 */
 } cpay_status;
 
 /** Codecs. */
@@ -278,6 +292,18 @@ typedef struct {
 
 typedef struct {
     cpay_handle handle;
+} cpay_path;
+
+typedef struct {
+    cpay_handle handle;
+} cpay_resend_limit;
+
+typedef struct {
+    cpay_handle handle;
+} cpay_packet_store;
+
+typedef struct {
+    cpay_handle handle;
 } cpay_session;
 
 #define CPAY_INIT { { false, { NULL } } }
@@ -295,6 +321,9 @@ void cpay_adaptive_wait_free(cpay_adaptive_wait *wait);
 void cpay_freezes_free(cpay_freezes *freezes);
 void cpay_transport_reporter_free(cpay_transport_reporter *reporter);
 void cpay_sent_packets_free(cpay_sent_packets *packets);
+void cpay_path_free(cpay_path *path);
+void cpay_resend_limit_free(cpay_resend_limit *limit);
+void cpay_packet_store_free(cpay_packet_store *store);
 void cpay_session_free(cpay_session *session);
 
 /** A codec with its settings. Settings of other codecs are ignored, with two exceptions: `rate` is always checked, and
@@ -1266,6 +1295,233 @@ CPAY_CHECKED cpay_status cpay_write_remb(uint32_t sender_ssrc, uint64_t bitrate,
 CPAY_CHECKED cpay_status cpay_read_remb(const uint8_t *rtcp, size_t rtcp_len, bool full, size_t index, uint64_t *bitrate,
                                         uint32_t *ssrcs, size_t ssrcs_len, size_t *count);
 
+/* ---- The path to a viewer: what leaves now, what may be retransmitted, and which layers fit ---- */
+
+/** How the path to a viewer is used. Rates are in bits per second, times in microseconds. */
+typedef struct {
+    uint64_t start;       /**< estimate of the path at the beginning: 300000 by default */
+    uint64_t least;       /**< no estimate is below this rate: 50000 by default */
+    uint64_t most;        /**< no estimate is above this rate: 10000000 by default */
+    size_t choice;        /**< index of the choice of layers at the beginning: 0 by default */
+    uint64_t bound;       /**< the most bytes that wait: 250000 by default, a second at 2 Mbit/s */
+    uint64_t pause;       /**< how long the choice does not rise after a fall: 2000000 by default */
+    uint64_t half_window; /**< half of the time whose sent bytes count for retransmissions: 500000 by default; 0 counts as 1 */
+    uint32_t share;       /**< in thousandths: the most bytes that are retransmitted, of those that are sent: 250 by default */
+    uint32_t burst;       /**< bytes that may leave at once, before one packet more: 2500 by default */
+} cpay_path_settings;
+
+/** What a packet is for: the field `kind` of a cpay_path_packet. Packets of a kind leave before those of the kinds below it. */
+typedef enum {
+    CPAY_PATH_AUDIO = 0,
+    CPAY_PATH_RESENT = 1, /**< a retransmission: a frame waits for it */
+    CPAY_PATH_MEDIA = 2,  /**< video that is sent for the first time */
+    CPAY_PATH_PADDING = 3 /**< padding, which fills the rate of a trial */
+} cpay_path_kind;
+
+/** A packet that waits to leave. */
+typedef struct {
+    uint64_t id;         /**< your name of the packet, for example its index among your packets; it is not interpreted */
+    uint32_t size;       /**< its bytes, with the headers that the path carries */
+    cpay_path_kind kind; /**< CPAY_PATH_AUDIO and so on */
+} cpay_path_packet;
+
+/** A packet that leaves now. */
+typedef struct {
+    cpay_path_packet packet;
+    uint16_t number; /**< the transport-wide number for its header extension: see cpay_number_datagram */
+} cpay_path_leaving;
+
+/** One choice of what a viewer gets: for example a size of simulcast, and how many temporal layers of it. */
+typedef struct {
+    uint64_t rate;  /**< rate of all that is sent with it, in bits per second, as you measure it */
+    uint64_t begin; /**< least rate to begin it, if it begins with a keyframe: one that carries the keyframe soon enough; or 0 */
+} cpay_path_choice;
+
+/** What a choice says. */
+typedef struct {
+    size_t choice;    /**< index of the choice of layers that the viewer gets */
+    uint32_t padding; /**< how many bytes of padding to push now: a trial has to be filled; 0 without a trial */
+    bool fell;        /**< the choice before had a higher index: remove what waits of its layers */
+    bool rose;        /**< the choice before had a lower index */
+} cpay_path_order_info;
+
+/** The state of a path. */
+typedef struct {
+    uint64_t estimate; /**< estimate of the rate that the path carries, in bits per second */
+    uint64_t waiting;  /**< how many bytes wait */
+    size_t choice;     /**< index of the current choice */
+} cpay_path_state_info;
+
+/** Whether a packet may be retransmitted. */
+typedef enum {
+    CPAY_RESEND_NOW = 0,
+    CPAY_RESEND_TOO_SOON = 1, /**< it was retransmitted less than a round trip ago: the request was sent before it could arrive */
+    CPAY_RESEND_SHARE = 2,    /**< the share of what was sent is used up */
+    CPAY_RESEND_TOO_MANY = 3  /**< 128 packets were retransmitted less than a round trip ago */
+} cpay_resend_answer;
+
+/** Sets the defaults. Does not allocate. */
+void cpay_path_settings_init(cpay_path_settings *settings);
+
+/** Creates the path to one viewer in an empty handle: a pacer, a limit of retransmissions, a choice of layers, and an estimate
+ * of what the path carries. `now` is in microseconds of your clock, as in all calls on a path; times do not fall. Push the
+ * packets of all streams of the viewer, send what cpay_path_pop returns with the number that it gets, hand in the viewer's
+ * feedback, and ask cpay_path_choose each 10 ms or so which layers to forward. Allocates about 45 kB. [m] */
+CPAY_CHECKED cpay_status cpay_path_new(cpay_path *path, uint64_t now, const cpay_path_settings *settings);
+
+/** Stores a packet after those of its kind. CPAY_INVALID: no such kind. CPAY_QUEUE_FULL: with the packet more bytes than
+ * `bound` would wait. CPAY_OUT_OF_MEMORY: nothing changed. [m] */
+CPAY_CHECKED cpay_status cpay_path_push(cpay_path *path, const cpay_path_packet *packet);
+
+/** Removes the packet that leaves now, and writes it with its transport-wide number: send it. Call it until CPAY_NONE. In `t`
+ * seconds at a pace of `r` bits per second at most r * t / 8 + burst bytes leave, and one packet more. CPAY_NONE: nothing
+ * waits, or the pace allows no packet yet. Does not allocate. */
+CPAY_CHECKED cpay_status cpay_path_pop(cpay_path *path, uint64_t now, cpay_path_leaving *leaving);
+
+/** Removes the first packet of a kind that waits, and writes it: it is not to leave any more. CPAY_INVALID: no such kind.
+ * CPAY_NONE: no packet of this kind waits. Does not allocate. */
+CPAY_CHECKED cpay_status cpay_path_remove(cpay_path *path, cpay_path_kind kind, cpay_path_packet *packet);
+
+/** Reports the time from which on cpay_path_pop returns a packet: the time-out of your poll. CPAY_NONE: nothing waits, or the
+ * pace is 0. Does not allocate. */
+CPAY_CHECKED cpay_status cpay_path_next_deadline(cpay_path *path, uint64_t *deadline);
+
+/** Asks whether the packet with this sequence number of its stream may be retransmitted now; then push it as CPAY_PATH_RESENT.
+ * `size` is in bytes, `round_trip` that of the viewer. With CPAY_RESEND_NOW it counts as retransmitted; else nothing is
+ * counted. If several reasons apply, the answer is the first in the order of cpay_resend_answer. Does not allocate. */
+CPAY_CHECKED cpay_status cpay_path_resend(cpay_path *path, uint64_t now, uint16_t number, uint32_t size, uint64_t round_trip,
+                                          cpay_resend_answer *answer);
+
+/** Hands in transport-wide feedback number `index`, from 0, of one datagram of RTCP of the viewer: call it with 0, 1, .. until
+ * CPAY_NONE. `full` is as for cpay_read_requests. Numbers that did not leave on this path change nothing. On each status except
+ * CPAY_OK nothing changes. CPAY_NONE and the other statuses: as for cpay_read_transport_feedback. [m] */
+CPAY_CHECKED cpay_status cpay_path_feedback(cpay_path *path, uint64_t now, uint64_t round_trip, const uint8_t *rtcp,
+                                            size_t rtcp_len, bool full, size_t index);
+
+/** Chooses layers, begins and fills trials, and sets the pace, which is never below the rate of the first choice and a
+ * quarter. List the choices from the lowest to the highest; the chosen index is below `choices_len`, or 0. CPAY_OUT_OF_MEMORY:
+ * nothing changed. [m] */
+CPAY_CHECKED cpay_status cpay_path_choose(cpay_path *path, uint64_t now, const cpay_path_choice *choices, size_t choices_len,
+                                          cpay_path_order_info *order);
+
+/** Reports the estimate, the bytes that wait, and the current choice. Does not allocate. */
+CPAY_CHECKED cpay_status cpay_path_state(cpay_path *path, cpay_path_state_info *state);
+
+/** How much may be retransmitted to a viewer. */
+typedef struct {
+    uint64_t half_window; /**< half of the time whose sent bytes count, in ticks of your clock: 500000 by default; 0 counts as 1 */
+    uint32_t share;       /**< in thousandths: the most bytes that are retransmitted, of those that are sent: 250 by default */
+} cpay_resend_limit_settings;
+
+/** Sets the defaults, for a clock of microseconds. Does not allocate. */
+void cpay_resend_limit_settings_init(cpay_resend_limit_settings *settings);
+
+/** Creates a limit of retransmissions to one viewer in an empty handle, for callers without a path: a number is retransmitted
+ * at most once in a round trip, and the bytes that are retransmitted are at most a share of those that were sent in the last
+ * second. So requests cannot flood the path. Ask it before cpay_history_resend or cpay_forwarder_resend. Allocates about 2 kB.
+ * [m] */
+CPAY_CHECKED cpay_status cpay_resend_limit_new(cpay_resend_limit *limit, const cpay_resend_limit_settings *settings);
+
+/** Counts a packet of this many bytes that is sent for the first time. Does not allocate. */
+CPAY_CHECKED cpay_status cpay_resend_limit_sent(cpay_resend_limit *limit, uint64_t now, uint32_t size);
+
+/** Asks whether the packet with this number may be retransmitted now, as cpay_path_resend does. Does not allocate. */
+CPAY_CHECKED cpay_status cpay_resend_limit_ask(cpay_resend_limit *limit, uint64_t now, uint16_t number, uint32_t size,
+                                               uint64_t round_trip, cpay_resend_answer *answer);
+
+/* ---- Extended reports: the round trip of a receiver that sends nothing (RFC 3611) ---- */
+
+/** What a peer has learned by extended reports. Initialise it with {0}. You may copy it; nothing is freed. */
+typedef struct {
+    uint64_t round_trip;   /**< with has_round_trip: the round trip by the latest answer, in ticks; else 0 */
+    uint32_t peer_ssrc;    /**< with has_peer: the peer whose reference time the next report answers */
+    uint32_t peer_last_rr; /**< with has_peer: the middle 32 bits of this time */
+    uint32_t peer_arrived; /**< with has_peer: when it came, by your clock in units of 1/65536 s */
+    uint8_t unanswered;    /**< how many reports were sent since the latest answer, at most 3 */
+    bool has_round_trip;   /**< an answer came to one of the latest three reports */
+    bool has_peer;         /**< a reference time waits for an answer */
+} cpay_xr_exchange;
+
+/** Takes one datagram of RTCP that came at time `now`, in ticks of a clock with `tick_rate` ticks per second, for your own
+ * SSRC. *answered: it has an answer that gives a round trip. The latest answer and the latest reference time count; an
+ * extended report with a fault is skipped. `full` is as for cpay_read_requests. CPAY_INVALID: `tick_rate` 0.
+ * CPAY_RTCP_HEADER_TOO_SHORT to CPAY_RTCP_FIR_LENGTH: not a compound RTCP packet. Does not allocate. */
+CPAY_CHECKED cpay_status cpay_xr_receive(cpay_xr_exchange *exchange, uint32_t ssrc, uint32_t tick_rate, uint64_t now,
+                                         const uint8_t *rtcp, size_t rtcp_len, bool full, bool *answered);
+
+/** Writes what a report that leaves at time `now` has to say: your reference time, in 20 bytes, and the answer to the
+ * reference time that waits, in 24 bytes. Append these whole RTCP packets to each report that you send, and then call
+ * cpay_xr_sent. CPAY_INVALID: `tick_rate` 0. CPAY_TOO_SMALL: *size is written. [m] */
+CPAY_CHECKED cpay_status cpay_xr_write(const cpay_xr_exchange *exchange, uint32_t ssrc, uint32_t tick_rate, uint64_t now,
+                                       uint8_t *bytes, size_t bytes_len, size_t *size);
+
+/** Notes that the report was sent, and returns whether the round trip ends with it: three others had no answer. */
+bool cpay_xr_sent(cpay_xr_exchange *exchange);
+
+/* ---- Congestion control feedback about the sequence numbers of a stream (RFC 8888) ---- */
+
+/** What congestion control feedback says about a stream. */
+typedef struct {
+    size_t count;         /**< how many packets it reports on, one after another; cpay_ccfb_write ignores it */
+    uint32_t sender_ssrc; /**< SSRC of the sender of the feedback */
+    uint32_t ssrc;        /**< SSRC of the stream */
+    uint32_t timestamp;   /**< time of the report: the middle 32 bits of an NTP timestamp */
+    uint16_t first;       /**< the first sequence number */
+} cpay_ccfb_info;
+
+/** What is reported about a packet. */
+typedef struct {
+    uint16_t offset; /**< how long before the report it arrived, in 1/1024 s, 0 to 8189; 8190: longer; 8191: unknown, or later */
+    uint8_t ecn;     /**< its two ECN bits (RFC 3168): 0 to 3; 0 if they are unknown */
+    bool arrived;    /**< false: it did not arrive, and the other fields are 0 */
+} cpay_ccfb_packet;
+
+/** Reads what congestion control feedback number `index` of one datagram of RTCP says about its stream number `stream`, both
+ * from 0: one element of `packets` for each sequence number from `first` on. `full` is as for cpay_read_requests. With
+ * CPAY_OK, elements after the first `count` are unchanged. CPAY_NONE: no feedback or no stream with this index.
+ * CPAY_TOO_SMALL: `packets` is too short; *info is written. CPAY_RTCP_HEADER_TOO_SHORT to CPAY_RTCP_FIR_LENGTH: not a compound
+ * RTCP packet. CPAY_CCFB_TOO_SHORT to CPAY_CCFB_METRICS_TOO_SHORT: the first fault of the feedback. Any peer can make it
+ * allocate three times the size of the datagram for the time of the call. [m] */
+CPAY_CHECKED cpay_status cpay_ccfb_read(const uint8_t *rtcp, size_t rtcp_len, bool full, size_t index, size_t stream,
+                                        cpay_ccfb_info *info, cpay_ccfb_packet *packets, size_t packets_len);
+
+/** Writes feedback about one stream, one element of `packets` for each sequence number from `first` on: a whole RTCP packet,
+ * for any place in a compound packet. Its time is the moment of sending. CPAY_INVALID: more than 16384 packets, ECN bits above
+ * 3, or an offset above 8191. CPAY_TOO_SMALL: *size is written. [m] */
+CPAY_CHECKED cpay_status cpay_ccfb_write(const cpay_ccfb_info *info, const cpay_ccfb_packet *packets, size_t packets_len,
+                                         uint8_t *bytes, size_t bytes_len, size_t *size);
+
+/** Returns the offset of a packet that arrived at `time`, for a report at `now`, both in microseconds of one clock. */
+uint16_t cpay_ccfb_offset(uint64_t now, uint64_t time);
+
+/* ---- Forward error correction: packets that are rebuilt (ULPFEC, RFC 5109) ---- */
+
+/** What a packet of FEC protects. */
+typedef struct {
+    uint64_t mask; /**< 48 bits: bit 47 stands for sequence number `base`, bit 0 for the number 47 after it */
+    size_t bytes;  /**< how many bytes after the fixed header of 12 bytes it protects of each packet, at most 65535 */
+    uint16_t base; /**< sequence number of the first bit of the mask */
+} cpay_fec_info;
+
+/** Reads the payload of a packet of FEC, of an RTP packet or of a block of RED. CPAY_FEC_HEADER_TOO_SHORT to
+ * CPAY_FEC_PAYLOAD_TOO_SHORT: the first fault. Does not allocate. */
+CPAY_CHECKED cpay_status cpay_fec_read(const uint8_t *fec, size_t fec_len, cpay_fec_info *info);
+
+/** Creates a store for the latest 512 packets of one stream in an empty handle. `bytes`: how much memory they may take in all;
+ * a packet that is larger than the 512th part of it is not kept. Allocates 12 kB. [m] */
+CPAY_CHECKED cpay_status cpay_packet_store_new(cpay_packet_store *store, size_t bytes);
+
+/** Keeps a copy of a packet of the stream: a whole RTP packet before RED, at its sequence number modulo 512. Pass each one
+ * that came, and each one that was rebuilt. CPAY_OUT_OF_MEMORY: nothing changed. [m] */
+CPAY_CHECKED cpay_status cpay_packet_store_keep(cpay_packet_store *store, const uint8_t *packet, size_t packet_len);
+
+/** Writes the only missing one of the packets that a packet of FEC protects: a whole RTP packet with this SSRC. For FEC of the
+ * sender of these packets it is a packet that was sent, byte for byte. CPAY_NONE: none is missing, or several are, or the
+ * result is not an RTP packet; try again once more packets came. CPAY_TOO_SMALL: *size is written. CPAY_FEC_HEADER_TOO_SHORT
+ * to CPAY_FEC_PAYLOAD_TOO_SHORT: not a packet of FEC. The store stays as it is. [m] */
+CPAY_CHECKED cpay_status cpay_packet_store_rebuild(cpay_packet_store *store, uint32_t ssrc, const uint8_t *fec, size_t fec_len,
+                                                   uint8_t *bytes, size_t bytes_len, size_t *size);
+
 /* ---- A session: all datagrams of a port in, the events of its streams out ---- */
 
 /** A payload format of a port, as a=rtpmap and a=fmtp of a session description name it (RFC 8866, section 6). */
@@ -1974,6 +2230,16 @@ static inline const char *cpay_status_text(cpay_status status) {
     case CPAY_EXTENSION_PROFILE: return "the header extension has no elements";
     case CPAY_EXTENSION_ROOM: return "the header extension has no room for the number";
     case CPAY_UNIT_TOO_LARGE: return "the unit is larger than the settings allow";
+    case CPAY_QUEUE_FULL: return "more bytes would wait than the settings allow";
+    case CPAY_CCFB_TOO_SHORT: return "the RFC 8888 feedback is shorter than its SSRC and its timestamp";
+    case CPAY_CCFB_BLOCK_TOO_SHORT: return "the RFC 8888 feedback ends inside the head of a block";
+    case CPAY_CCFB_TOO_MANY: return "the RFC 8888 feedback has a block of more than 16384 packets";
+    case CPAY_CCFB_METRICS_TOO_SHORT: return "the RFC 8888 feedback ends inside the packets of a block";
+    case CPAY_FEC_HEADER_TOO_SHORT: return "the FEC packet is shorter than its header";
+    case CPAY_FEC_EXTENDED: return "the FEC packet has its extension flag set";
+    case CPAY_FEC_LEVEL_TOO_SHORT: return "the FEC packet ends inside the header of level 0";
+    case CPAY_FEC_EMPTY_MASK: return "the FEC packet protects no packet";
+    case CPAY_FEC_PAYLOAD_TOO_SHORT: return "the FEC packet ends inside the payload of level 0";
     default: return "unknown status";
     }
 }

@@ -386,6 +386,89 @@ public:
     return cpay_read_remb(rtcp.data(), rtcp.size(), full, index, &bitrate, ssrcs.data(), ssrcs.size(), &count);
 }
 
+/** The path to a viewer: what leaves now, what may be retransmitted, and which layers fit. */
+class path : public handle<cpay_path, cpay_path_free> {
+public:
+    [[nodiscard]] cpay_status make(std::uint64_t now, const cpay_path_settings &settings) noexcept {
+        return cpay_path_new(get(), now, &settings);
+    }
+    [[nodiscard]] cpay_status push(const cpay_path_packet &packet) noexcept { return cpay_path_push(get(), &packet); }
+    [[nodiscard]] cpay_status pop(std::uint64_t now, cpay_path_leaving &leaving) noexcept {
+        return cpay_path_pop(get(), now, &leaving);
+    }
+    [[nodiscard]] cpay_status remove(cpay_path_kind kind, cpay_path_packet &packet) noexcept {
+        return cpay_path_remove(get(), kind, &packet);
+    }
+    [[nodiscard]] cpay_status next_deadline(std::uint64_t &deadline) noexcept { return cpay_path_next_deadline(get(), &deadline); }
+    [[nodiscard]] cpay_status resend(std::uint64_t now, std::uint16_t number, std::uint32_t size, std::uint64_t round_trip,
+                                     cpay_resend_answer &answer) noexcept {
+        return cpay_path_resend(get(), now, number, size, round_trip, &answer);
+    }
+    [[nodiscard]] cpay_status feedback(std::uint64_t now, std::uint64_t round_trip, bytes rtcp, bool full,
+                                       std::size_t index) noexcept {
+        return cpay_path_feedback(get(), now, round_trip, rtcp.data(), rtcp.size(), full, index);
+    }
+    [[nodiscard]] cpay_status choose(std::uint64_t now, view<const cpay_path_choice> choices,
+                                     cpay_path_order_info &order) noexcept {
+        return cpay_path_choose(get(), now, choices.data(), choices.size(), &order);
+    }
+    [[nodiscard]] cpay_status state(cpay_path_state_info &state) noexcept { return cpay_path_state(get(), &state); }
+};
+
+/** A limit of retransmissions to one viewer, without a path. */
+class resend_limit : public handle<cpay_resend_limit, cpay_resend_limit_free> {
+public:
+    [[nodiscard]] cpay_status make(const cpay_resend_limit_settings &settings) noexcept {
+        return cpay_resend_limit_new(get(), &settings);
+    }
+    [[nodiscard]] cpay_status sent(std::uint64_t now, std::uint32_t size) noexcept {
+        return cpay_resend_limit_sent(get(), now, size);
+    }
+    [[nodiscard]] cpay_status ask(std::uint64_t now, std::uint16_t number, std::uint32_t size, std::uint64_t round_trip,
+                                  cpay_resend_answer &answer) noexcept {
+        return cpay_resend_limit_ask(get(), now, number, size, round_trip, &answer);
+    }
+};
+
+/** Takes a datagram of RTCP for the round trip: see cpay_xr_receive. */
+[[nodiscard]] inline cpay_status xr_receive(cpay_xr_exchange &exchange, std::uint32_t ssrc, std::uint32_t tick_rate,
+                                            std::uint64_t now, bytes rtcp, bool full, bool &answered) noexcept {
+    return cpay_xr_receive(&exchange, ssrc, tick_rate, now, rtcp.data(), rtcp.size(), full, &answered);
+}
+
+/** What a report has to say for the round trip: see cpay_xr_write. */
+[[nodiscard]] inline cpay_status xr_write(const cpay_xr_exchange &exchange, std::uint32_t ssrc, std::uint32_t tick_rate,
+                                          std::uint64_t now, room to, std::size_t &size) noexcept {
+    return cpay_xr_write(&exchange, ssrc, tick_rate, now, to.data(), to.size(), &size);
+}
+
+/** What congestion control feedback says about one of its streams: see cpay_ccfb_read. */
+[[nodiscard]] inline cpay_status ccfb_read(bytes rtcp, bool full, std::size_t index, std::size_t stream, cpay_ccfb_info &info,
+                                           view<cpay_ccfb_packet> packets) noexcept {
+    return cpay_ccfb_read(rtcp.data(), rtcp.size(), full, index, stream, &info, packets.data(), packets.size());
+}
+
+/** Congestion control feedback about one stream: see cpay_ccfb_write. */
+[[nodiscard]] inline cpay_status ccfb_write(const cpay_ccfb_info &info, view<const cpay_ccfb_packet> packets, room to,
+                                            std::size_t &size) noexcept {
+    return cpay_ccfb_write(&info, packets.data(), packets.size(), to.data(), to.size(), &size);
+}
+
+/** What a packet of FEC protects: see cpay_fec_read. */
+[[nodiscard]] inline cpay_status fec_read(bytes fec, cpay_fec_info &info) noexcept {
+    return cpay_fec_read(fec.data(), fec.size(), &info);
+}
+
+/** The latest packets of a stream, from which packets of FEC rebuild lost ones. */
+class packet_store : public handle<cpay_packet_store, cpay_packet_store_free> {
+public:
+    [[nodiscard]] cpay_status make(std::size_t size) noexcept { return cpay_packet_store_new(get(), size); }
+    [[nodiscard]] cpay_status keep(bytes packet) noexcept { return cpay_packet_store_keep(get(), packet.data(), packet.size()); }
+    [[nodiscard]] cpay_status rebuild(std::uint32_t ssrc, bytes fec, room to, std::size_t &size) noexcept {
+        return cpay_packet_store_rebuild(get(), ssrc, fec.data(), fec.size(), to.data(), to.size(), &size);
+    }
+};
+
 /** The first setting that no session can meet: see cpay_session_settings_check. */
 [[nodiscard]] inline cpay_status check_settings(const cpay_session_settings &settings, view<const cpay_session_format> formats,
                                                 bytes no_media, cpay_settings_fault &fault) noexcept {

@@ -32,9 +32,10 @@ const char *cpay_text_of_sdp_error(uint32_t error);
 /** Returns an English text for the reason why sections give no settings of a session, as cpay_sdp_session_error_text does. */
 const char *cpay_text_of_sdp_session_error(uint32_t error);
 
-/** Returns whether a status says that one datagram from the network is malformed, and nothing else: CPAY_RED_CORRUPTED, and the
- * statuses of RTP packets, retransmissions, RTCP and feedback, 42 to 73. Any peer can cause these: count them, and go on. Of all
- * other errors CPAY_OUT_OF_MEMORY may pass, and each other one is a fault of the program. */
+/** Returns whether a status says that one datagram from the network is malformed, and nothing else: CPAY_RED_CORRUPTED, the
+ * statuses of RTP packets, retransmissions, RTCP and feedback, 42 to 73, and those of RFC 8888 and of FEC, 78 to 86. Any peer can
+ * cause these: count them, and go on. Of all other errors CPAY_OUT_OF_MEMORY may pass, and each other one is a fault of the
+ * program. */
 bool cpay_status_is_of_datagram(uint32_t status);
 
 /** Writes the codec and the rate of a format to *spec, by its encoding name (RFC 8866, section 6.6), in upper or lower case:
@@ -131,6 +132,24 @@ CPAY_CHECKED cpay_status cpay_sent_packets_create(cpay_sent_packets **packets, s
 
 /** Frees the sent packets of a transport and the memory of its handle. */
 void cpay_sent_packets_destroy(cpay_sent_packets *packets);
+
+/** Creates a path as cpay_path_new does. [m] */
+CPAY_CHECKED cpay_status cpay_path_create(cpay_path **path, uint64_t now, const cpay_path_settings *settings);
+
+/** Frees a path and the memory of its handle. */
+void cpay_path_destroy(cpay_path *path);
+
+/** Creates a limit of retransmissions as cpay_resend_limit_new does. [m] */
+CPAY_CHECKED cpay_status cpay_resend_limit_create(cpay_resend_limit **limit, const cpay_resend_limit_settings *settings);
+
+/** Frees a limit of retransmissions and the memory of its handle. */
+void cpay_resend_limit_destroy(cpay_resend_limit *limit);
+
+/** Creates a store of packets as cpay_packet_store_new does. [m] */
+CPAY_CHECKED cpay_status cpay_packet_store_create(cpay_packet_store **store, size_t bytes);
+
+/** Frees a store of packets and the memory of its handle. */
+void cpay_packet_store_destroy(cpay_packet_store *store);
 
 /** Creates a session as cpay_session_new does. [m] */
 CPAY_CHECKED cpay_status cpay_session_create(cpay_session **session, const cpay_session_settings *settings,

@@ -14,7 +14,8 @@ const char *cpay_text_of_sdp_error(uint32_t error) { return cpay_sdp_error_text(
 const char *cpay_text_of_sdp_session_error(uint32_t error) { return cpay_sdp_session_error_text((cpay_sdp_session_error)error); }
 
 bool cpay_status_is_of_datagram(uint32_t status) {
-    return status == CPAY_RED_CORRUPTED || (status >= CPAY_RTP_HEADER_TOO_SHORT && status <= CPAY_TRANSPORT_DELTAS_TOO_SHORT);
+    return status == CPAY_RED_CORRUPTED || (status >= CPAY_RTP_HEADER_TOO_SHORT && status <= CPAY_TRANSPORT_DELTAS_TOO_SHORT) ||
+           (status >= CPAY_CCFB_TOO_SHORT && status <= CPAY_FEC_PAYLOAD_TOO_SHORT);
 }
 
 cpay_status cpay_receiver_take(cpay_receiver *receiver, uint64_t now, const uint8_t *datagram, size_t datagram_len,

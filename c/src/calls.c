@@ -10,6 +10,7 @@ static uint64_t nothing[2];
 uint32_t cpay_version(void) { return CPAY_VERSION; }
 
 void proved_cpay_free(cpay_handle *handle);
+void proved_cpay_path_object_free(cpay_handle *handle);
 
 void cpay_packetizer_free(cpay_packetizer *packetizer) {
     if (packetizer) proved_cpay_free(&packetizer->handle);
@@ -57,6 +58,18 @@ void cpay_transport_reporter_free(cpay_transport_reporter *reporter) {
 
 void cpay_sent_packets_free(cpay_sent_packets *packets) {
     if (packets) proved_cpay_free(&packets->handle);
+}
+
+void cpay_path_free(cpay_path *path) {
+    if (path) proved_cpay_path_object_free(&path->handle);
+}
+
+void cpay_resend_limit_free(cpay_resend_limit *limit) {
+    if (limit) proved_cpay_path_object_free(&limit->handle);
+}
+
+void cpay_packet_store_free(cpay_packet_store *store) {
+    if (store) proved_cpay_path_object_free(&store->handle);
 }
 
 void cpay_session_free(cpay_session *session) {
@@ -544,6 +557,159 @@ cpay_status cpay_read_remb(const uint8_t *rtcp, size_t rtcp_len, bool full, size
     if ((!rtcp && rtcp_len) || (!ssrcs && ssrcs_len)) return CPAY_INVALID;
     return proved_cpay_read_remb(rtcp ? rtcp : (const uint8_t *)nothing, rtcp_len, full, index, bitrate,
                                  ssrcs ? ssrcs : (uint32_t *)nothing, ssrcs_len, count);
+}
+
+void proved_cpay_path_settings_init(cpay_path_settings *settings);
+void cpay_path_settings_init(cpay_path_settings *settings) {
+    proved_cpay_path_settings_init(settings);
+}
+
+cpay_status proved_cpay_path_new(cpay_handle *path, uint64_t now, const cpay_path_settings *settings);
+cpay_status cpay_path_new(cpay_path *path, uint64_t now, const cpay_path_settings *settings) {
+    return proved_cpay_path_new(&path->handle, now, settings);
+}
+
+cpay_status proved_cpay_path_push(cpay_handle *path, const cpay_path_packet *packet);
+cpay_status cpay_path_push(cpay_path *path, const cpay_path_packet *packet) {
+    return proved_cpay_path_push(&path->handle, packet);
+}
+
+cpay_status proved_cpay_path_pop(cpay_handle *path, uint64_t now, cpay_path_leaving *leaving);
+cpay_status cpay_path_pop(cpay_path *path, uint64_t now, cpay_path_leaving *leaving) {
+    return proved_cpay_path_pop(&path->handle, now, leaving);
+}
+
+cpay_status proved_cpay_path_remove(cpay_handle *path, cpay_path_kind kind, cpay_path_packet *packet);
+cpay_status cpay_path_remove(cpay_path *path, cpay_path_kind kind, cpay_path_packet *packet) {
+    return proved_cpay_path_remove(&path->handle, kind, packet);
+}
+
+cpay_status proved_cpay_path_next_deadline(cpay_handle *path, uint64_t *deadline);
+cpay_status cpay_path_next_deadline(cpay_path *path, uint64_t *deadline) {
+    return proved_cpay_path_next_deadline(&path->handle, deadline);
+}
+
+cpay_status proved_cpay_path_resend(cpay_handle *path, uint64_t now, uint16_t number, uint32_t size, uint64_t round_trip,
+                                    cpay_resend_answer *answer);
+cpay_status cpay_path_resend(cpay_path *path, uint64_t now, uint16_t number, uint32_t size, uint64_t round_trip,
+                             cpay_resend_answer *answer) {
+    return proved_cpay_path_resend(&path->handle, now, number, size, round_trip, answer);
+}
+
+cpay_status proved_cpay_path_feedback(cpay_handle *path, uint64_t now, uint64_t round_trip, const uint8_t *rtcp,
+                                      size_t rtcp_len, bool full, size_t index);
+cpay_status cpay_path_feedback(cpay_path *path, uint64_t now, uint64_t round_trip, const uint8_t *rtcp, size_t rtcp_len,
+                               bool full, size_t index) {
+    if (!rtcp && rtcp_len) return CPAY_INVALID;
+    return proved_cpay_path_feedback(&path->handle, now, round_trip, rtcp ? rtcp : (const uint8_t *)nothing, rtcp_len, full,
+                                     index);
+}
+
+cpay_status proved_cpay_path_choose(cpay_handle *path, uint64_t now, const cpay_path_choice *choices, size_t choices_len,
+                                    cpay_path_order_info *order);
+cpay_status cpay_path_choose(cpay_path *path, uint64_t now, const cpay_path_choice *choices, size_t choices_len,
+                             cpay_path_order_info *order) {
+    if (!choices && choices_len) return CPAY_INVALID;
+    return proved_cpay_path_choose(&path->handle, now, choices ? choices : (const cpay_path_choice *)nothing, choices_len,
+                                   order);
+}
+
+cpay_status proved_cpay_path_state(cpay_handle *path, cpay_path_state_info *state);
+cpay_status cpay_path_state(cpay_path *path, cpay_path_state_info *state) {
+    return proved_cpay_path_state(&path->handle, state);
+}
+
+void proved_cpay_resend_limit_settings_init(cpay_resend_limit_settings *settings);
+void cpay_resend_limit_settings_init(cpay_resend_limit_settings *settings) {
+    proved_cpay_resend_limit_settings_init(settings);
+}
+
+cpay_status proved_cpay_resend_limit_new(cpay_handle *limit, const cpay_resend_limit_settings *settings);
+cpay_status cpay_resend_limit_new(cpay_resend_limit *limit, const cpay_resend_limit_settings *settings) {
+    return proved_cpay_resend_limit_new(&limit->handle, settings);
+}
+
+cpay_status proved_cpay_resend_limit_sent(cpay_handle *limit, uint64_t now, uint32_t size);
+cpay_status cpay_resend_limit_sent(cpay_resend_limit *limit, uint64_t now, uint32_t size) {
+    return proved_cpay_resend_limit_sent(&limit->handle, now, size);
+}
+
+cpay_status proved_cpay_resend_limit_ask(cpay_handle *limit, uint64_t now, uint16_t number, uint32_t size, uint64_t round_trip,
+                                         cpay_resend_answer *answer);
+cpay_status cpay_resend_limit_ask(cpay_resend_limit *limit, uint64_t now, uint16_t number, uint32_t size, uint64_t round_trip,
+                                  cpay_resend_answer *answer) {
+    return proved_cpay_resend_limit_ask(&limit->handle, now, number, size, round_trip, answer);
+}
+
+cpay_status proved_cpay_xr_receive(cpay_xr_exchange *exchange, uint32_t ssrc, uint32_t tick_rate, uint64_t now,
+                                   const uint8_t *rtcp, size_t rtcp_len, bool full, bool *answered);
+cpay_status cpay_xr_receive(cpay_xr_exchange *exchange, uint32_t ssrc, uint32_t tick_rate, uint64_t now, const uint8_t *rtcp,
+                            size_t rtcp_len, bool full, bool *answered) {
+    if (!rtcp && rtcp_len) return CPAY_INVALID;
+    return proved_cpay_xr_receive(exchange, ssrc, tick_rate, now, rtcp ? rtcp : (const uint8_t *)nothing, rtcp_len, full,
+                                  answered);
+}
+
+cpay_status proved_cpay_xr_write(const cpay_xr_exchange *exchange, uint32_t ssrc, uint32_t tick_rate, uint64_t now,
+                                 uint8_t *bytes, size_t bytes_len, size_t *size);
+cpay_status cpay_xr_write(const cpay_xr_exchange *exchange, uint32_t ssrc, uint32_t tick_rate, uint64_t now, uint8_t *bytes,
+                          size_t bytes_len, size_t *size) {
+    if (!bytes && bytes_len) return CPAY_INVALID;
+    return proved_cpay_xr_write(exchange, ssrc, tick_rate, now, bytes ? bytes : (uint8_t *)nothing, bytes_len, size);
+}
+
+bool proved_cpay_xr_sent(cpay_xr_exchange *exchange);
+bool cpay_xr_sent(cpay_xr_exchange *exchange) {
+    return proved_cpay_xr_sent(exchange);
+}
+
+cpay_status proved_cpay_ccfb_read(const uint8_t *rtcp, size_t rtcp_len, bool full, size_t index, size_t stream,
+                                  cpay_ccfb_info *info, cpay_ccfb_packet *packets, size_t packets_len);
+cpay_status cpay_ccfb_read(const uint8_t *rtcp, size_t rtcp_len, bool full, size_t index, size_t stream, cpay_ccfb_info *info,
+                           cpay_ccfb_packet *packets, size_t packets_len) {
+    if ((!rtcp && rtcp_len) || (!packets && packets_len)) return CPAY_INVALID;
+    return proved_cpay_ccfb_read(rtcp ? rtcp : (const uint8_t *)nothing, rtcp_len, full, index, stream, info,
+                                 packets ? packets : (cpay_ccfb_packet *)nothing, packets_len);
+}
+
+cpay_status proved_cpay_ccfb_write(const cpay_ccfb_info *info, const cpay_ccfb_packet *packets, size_t packets_len,
+                                   uint8_t *bytes, size_t bytes_len, size_t *size);
+cpay_status cpay_ccfb_write(const cpay_ccfb_info *info, const cpay_ccfb_packet *packets, size_t packets_len, uint8_t *bytes,
+                            size_t bytes_len, size_t *size) {
+    if ((!packets && packets_len) || (!bytes && bytes_len)) return CPAY_INVALID;
+    return proved_cpay_ccfb_write(info, packets ? packets : (const cpay_ccfb_packet *)nothing, packets_len,
+                                  bytes ? bytes : (uint8_t *)nothing, bytes_len, size);
+}
+
+uint16_t proved_cpay_ccfb_offset(uint64_t now, uint64_t time);
+uint16_t cpay_ccfb_offset(uint64_t now, uint64_t time) {
+    return proved_cpay_ccfb_offset(now, time);
+}
+
+cpay_status proved_cpay_fec_read(const uint8_t *fec, size_t fec_len, cpay_fec_info *info);
+cpay_status cpay_fec_read(const uint8_t *fec, size_t fec_len, cpay_fec_info *info) {
+    if (!fec && fec_len) return CPAY_INVALID;
+    return proved_cpay_fec_read(fec ? fec : (const uint8_t *)nothing, fec_len, info);
+}
+
+cpay_status proved_cpay_packet_store_new(cpay_handle *store, size_t bytes);
+cpay_status cpay_packet_store_new(cpay_packet_store *store, size_t bytes) {
+    return proved_cpay_packet_store_new(&store->handle, bytes);
+}
+
+cpay_status proved_cpay_packet_store_keep(cpay_handle *store, const uint8_t *packet, size_t packet_len);
+cpay_status cpay_packet_store_keep(cpay_packet_store *store, const uint8_t *packet, size_t packet_len) {
+    if (!packet && packet_len) return CPAY_INVALID;
+    return proved_cpay_packet_store_keep(&store->handle, packet ? packet : (const uint8_t *)nothing, packet_len);
+}
+
+cpay_status proved_cpay_packet_store_rebuild(cpay_handle *store, uint32_t ssrc, const uint8_t *fec, size_t fec_len,
+                                             uint8_t *bytes, size_t bytes_len, size_t *size);
+cpay_status cpay_packet_store_rebuild(cpay_packet_store *store, uint32_t ssrc, const uint8_t *fec, size_t fec_len,
+                                      uint8_t *bytes, size_t bytes_len, size_t *size) {
+    if ((!fec && fec_len) || (!bytes && bytes_len)) return CPAY_INVALID;
+    return proved_cpay_packet_store_rebuild(&store->handle, ssrc, fec ? fec : (const uint8_t *)nothing, fec_len,
+                                            bytes ? bytes : (uint8_t *)nothing, bytes_len, size);
 }
 
 void proved_cpay_session_settings_init(cpay_session_settings *settings, cpay_purpose purpose);

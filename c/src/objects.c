@@ -186,6 +186,51 @@ void cpay_sent_packets_destroy(cpay_sent_packets *packets) {
     free(packets);
 }
 
+cpay_status cpay_path_create(cpay_path **path, uint64_t now, const cpay_path_settings *settings) {
+    cpay_path *made = malloc(sizeof *made);
+    if (!made) return CPAY_OUT_OF_MEMORY;
+    *made = (cpay_path)CPAY_INIT;
+    const cpay_status status = cpay_path_new(made, now, settings);
+    if (status) free(made);
+    else *path = made;
+    return status;
+}
+
+void cpay_path_destroy(cpay_path *path) {
+    cpay_path_free(path);
+    free(path);
+}
+
+cpay_status cpay_resend_limit_create(cpay_resend_limit **limit, const cpay_resend_limit_settings *settings) {
+    cpay_resend_limit *made = malloc(sizeof *made);
+    if (!made) return CPAY_OUT_OF_MEMORY;
+    *made = (cpay_resend_limit)CPAY_INIT;
+    const cpay_status status = cpay_resend_limit_new(made, settings);
+    if (status) free(made);
+    else *limit = made;
+    return status;
+}
+
+void cpay_resend_limit_destroy(cpay_resend_limit *limit) {
+    cpay_resend_limit_free(limit);
+    free(limit);
+}
+
+cpay_status cpay_packet_store_create(cpay_packet_store **store, size_t bytes) {
+    cpay_packet_store *made = malloc(sizeof *made);
+    if (!made) return CPAY_OUT_OF_MEMORY;
+    *made = (cpay_packet_store)CPAY_INIT;
+    const cpay_status status = cpay_packet_store_new(made, bytes);
+    if (status) free(made);
+    else *store = made;
+    return status;
+}
+
+void cpay_packet_store_destroy(cpay_packet_store *store) {
+    cpay_packet_store_free(store);
+    free(store);
+}
+
 cpay_status cpay_session_create(cpay_session **session, const cpay_session_settings *settings,
                                 const cpay_session_format *formats, size_t formats_len, const uint8_t *no_media,
                                 size_t no_media_len, const cpay_ssrc_pair *pairs, size_t pairs_len) {

@@ -339,10 +339,67 @@ static void rtcp(size_t size) {
     MADE(cpay_write_receiver_report(1, blocks, least(size, 31), room, sizeof room, &found));
 }
 
+/* A path on which that many packets wait and leave, with feedback about as many, and as many choices of layers. */
+static void paths(size_t size) {
+    static cpay_path_choice choices[MOST];
+    cpay_path_settings settings;
+    cpay_path_settings_init(&settings);
+    settings.bound = UINT64_MAX;
+    settings.start = UINT64_MAX;
+    const cpay_resend_limit_settings limits = {.share = UINT32_MAX, .half_window = UINT64_MAX};
+    cpay_path it = CPAY_INIT;
+    cpay_resend_limit limit = CPAY_INIT;
+    cpay_path_leaving leaving = {0};
+    cpay_path_order_info order = {0};
+    MADE(cpay_path_new(&it, 0, &settings));
+    MADE(cpay_resend_limit_new(&limit, &limits));
+    for (uint32_t i = 0; i < size; i++) {
+        const cpay_path_packet packet = {.id = i, .size = (uint32_t)size, .kind = (cpay_path_kind)(i % 4)};
+        MADE(cpay_path_push(&it, &packet));
+    }
+    for (uint64_t now = 0; now < size; now++)
+        if (cpay_path_pop(&it, now << 32, &leaving)) bad++;
+    /* one that says that all of them are missing */
+    const uint8_t head[20] = {0x8f, 205, 0, 0, 0, 0, 0, 1, 0, 0, 0, 7, 0, 0, (uint8_t)(size >> 8), (uint8_t)size, 0, 0, 0, 0};
+    memcpy(room, head, sizeof head);
+    size_t at = sizeof head;
+    for (size_t left = size; left; left -= least(left, 8191), at += 2)
+        room[at] = (uint8_t)(least(left, 8191) >> 8), room[at + 1] = (uint8_t)least(left, 8191);
+    room[at] = room[at + 1] = 0;
+    at = (at + 3) / 4 * 4;
+    room[2] = (uint8_t)((at / 4 - 1) >> 8), room[3] = (uint8_t)(at / 4 - 1);
+    MADE(cpay_path_feedback(&it, UINT64_MAX, 1, room, at, false, 0));
+    MADE(cpay_path_choose(&it, UINT64_MAX, choices, size, &order));
+    cpay_path_free(&it);
+    cpay_resend_limit_free(&limit);
+}
+
+/* Reports about that many packets, and FEC over as many bytes. */
+static void reports(size_t size) {
+    static cpay_ccfb_packet packets[16384];
+    static uint8_t fec[2 * MOST];
+    const cpay_xr_exchange exchange = {.has_peer = true, .peer_arrived = (uint32_t)size};
+    cpay_ccfb_info info = {.ssrc = (uint32_t)size};
+    cpay_packet_store store = CPAY_INIT;
+    size_t found = 0;
+    MADE(cpay_xr_write(&exchange, 1, (uint32_t)size + 1, UINT64_MAX, room, sizeof room, &found));
+    MADE(cpay_ccfb_write(&info, packets, least(size, 16384), room, sizeof room, &found));
+    MADE(cpay_ccfb_read(room, found, false, 0, 0, &info, packets, 16384));
+    MADE(cpay_packet_store_new(&store, 512 * size));
+    size_t bytes = packet(room, VP8, 7, 1, frame, least(size, 65000));
+    MADE(cpay_packet_store_keep(&store, room, bytes));
+    /* it protects this packet and the next one, which is missing: of another length */
+    const uint8_t head[14] = {0, 0, 0, 1, 0, 0, 0, 0, 0, 1, (uint8_t)(least(size, 65535) >> 8), (uint8_t)least(size, 65535), 0xc0, 0};
+    memcpy(fec, head, sizeof head);
+    cpay_status status = TOLD(cpay_packet_store_rebuild(&store, 7, fec, sizeof head + least(size, 65535), room, sizeof room, &found));
+    if (status && status != CPAY_NONE && status != CPAY_OUT_OF_MEMORY) bad++;
+    cpay_packet_store_free(&store);
+}
+
 int main(void) {
     static const size_t sizes[] = {0, 1, 2, 3, 4, 5, 8, 9, 10, 16, 17, 31, 32, 33, 63, 64, 65, 128, 129, 255, 256, 257, 1023, 1024, 1025,
                                    1200, 1201, 1400, 1401, 4097, 10000, 33000, 65500};
-    static void (*const made[])(size_t) = {packetizers, buffers, red, senders, receivers, transport, sessions, waits, rtcp};
+    static void (*const made[])(size_t) = {packetizers, buffers, red, senders, receivers, transport, sessions, waits, rtcp, paths, reports};
     kept = 0; /* on Windows the start of a program allocates too */
     for (size_t i = 0; i < sizeof sizes / sizeof *sizes; i++)
         for (size_t k = 0; k < sizeof made / sizeof *made; k++) made[k](sizes[i]);

@@ -17,7 +17,7 @@ static void texts(void) {
 
 /* The statuses that a malformed datagram causes, and their neighbours. */
 static void datagrams(void) {
-    for (uint32_t i = 0; i < 300; i++) CHECK(cpay_status_is_of_datagram(i) == (i == 14 || (i >= 42 && i <= 73)));
+    for (uint32_t i = 0; i < 300; i++) CHECK(cpay_status_is_of_datagram(i) == (i == 14 || (i >= 42 && i <= 73) || (i >= 78 && i <= 86)));
     uint8_t red[] = {0x80, 63, 0, 1, 0, 0, 0, 1, 0, 0, 0, 7, 0x80}; /* a block header of RED that ends after a byte */
     cpay_receiver_settings settings;
     cpay_outcome outcome = CPAY_HELD;

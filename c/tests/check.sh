@@ -3,7 +3,7 @@
 #
 #   c/tests/check.sh FOLDER COMMAND..    the programs are in FOLDER; COMMAND, if given, runs each of them
 #
-# The result of each call: checks, datagrams, lending, session, history, forward, waiting, congestion, rtcp, values, packets, bindings. The
+# The result of each call: checks, datagrams, lending, session, history, forward, waiting, congestion, paths, reports, rtcp, values, packets, bindings. The
 # examples: first, in memory, and over UDP on loopback a stream, loopback, and a port with two senders, port. The stored script of
 # the program payload_vectors: vectors. Headers of frames, compared with other readers, and hostile frames: frames, frames.txt.
 # Allocations less frees after each type of use, and each allocation of a session refused in turn: oom, and of a forwarder:
@@ -35,7 +35,7 @@ unix() {
 }
 
 # Programs of Windows end in .exe. There the two examples with sockets of Unix are not built, and a program over the DLL is.
-names="first checks datagrams lending session history forward waiting congestion rtcp packets values bindings"
+names="first checks datagrams lending session history forward waiting congestion paths reports rtcp packets values bindings"
 exe=
 if [ -e "$folder/first.exe" ]; then
     exe=.exe

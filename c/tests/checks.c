@@ -108,7 +108,17 @@ static void texts(void) {
         {74, "the header extension has no elements"},
         {75, "the header extension has no room for the number"},
         {76, "the unit is larger than the settings allow"},
-        {77, "unknown status"},
+        {77, "more bytes would wait than the settings allow"},
+        {78, "the RFC 8888 feedback is shorter than its SSRC and its timestamp"},
+        {79, "the RFC 8888 feedback ends inside the head of a block"},
+        {80, "the RFC 8888 feedback has a block of more than 16384 packets"},
+        {81, "the RFC 8888 feedback ends inside the packets of a block"},
+        {82, "the FEC packet is shorter than its header"},
+        {83, "the FEC packet has its extension flag set"},
+        {84, "the FEC packet ends inside the header of level 0"},
+        {85, "the FEC packet protects no packet"},
+        {86, "the FEC packet ends inside the payload of level 0"},
+        {87, "unknown status"},
     };
     for (size_t i = 0; i < sizeof rows / sizeof *rows; i++)
         CHECK(strcmp(cpay_status_text((cpay_status)rows[i].status), rows[i].text) == 0);

@@ -303,6 +303,95 @@ static cpay_status numbered(cpay_transport_reporter *reporter, uint64_t now, uin
     return cpay_transport_reporter_receive(reporter, now, datagram, sizeof datagram);
 }
 
+/* A path: packets wait, leave and are reported, and layers are chosen. A call without memory changes nothing. */
+static int paths(int *met) {
+    static const uint8_t feedback[24] = {0x8f, 205, 0, 5, 0, 0, 0, 1, 0, 0, 0, 7, 0, 0, 0, 2, 0, 0, 1, 0, 0, 2, 0, 0};
+    static const cpay_path_choice choices[3] = {{.rate = 1000}, {.rate = 2000}, {.rate = 3000}};
+    long before = kept;
+    cpay_path_settings settings;
+    cpay_path_settings_init(&settings);
+    const cpay_resend_limit_settings limits = {.share = 250};
+    cpay_path path = CPAY_INIT;
+    cpay_resend_limit limit = CPAY_INIT;
+    cpay_path_leaving leaving = {0};
+    cpay_path_state_info state = {0};
+    cpay_path_order_info order = {.choice = 99};
+    cpay_status status;
+    AGAIN(status, cpay_path_new(&path, 0, &settings));
+    if (status) return 1;
+    AGAIN(status, cpay_resend_limit_new(&limit, &limits));
+    if (status) return 2;
+    for (uint32_t i = 0; i < 8; i++) {
+        const cpay_path_packet packet = {.id = i, .size = 100, .kind = (cpay_path_kind)(i % 4)};
+        refused = false;
+        status = cpay_path_push(&path, &packet);
+        if (status == CPAY_OUT_OF_MEMORY) {
+            (*met)++;
+            if (!refused || cpay_path_state(&path, &state) || state.waiting != 100 * i) return 3;
+            status = cpay_path_push(&path, &packet);
+        }
+        if (status || cpay_path_state(&path, &state) || state.waiting != 100 * (i + 1)) return 4;
+    }
+    for (uint16_t i = 0; i < 8; i++)
+        if (cpay_path_pop(&path, 0, &leaving) || leaving.number != i || leaving.packet.id != (i % 2) * 4u + i / 2) return 5;
+    AGAIN(status, cpay_path_feedback(&path, 0, 0, feedback, sizeof feedback, false, 0));
+    if (status) return 6;
+    refused = false;
+    status = cpay_path_choose(&path, 0, choices, 3, &order);
+    if (status == CPAY_OUT_OF_MEMORY) {
+        (*met)++;
+        if (!refused || order.choice != 99 || cpay_path_state(&path, &state) || state.choice != 0) return 7;
+        status = cpay_path_choose(&path, 0, choices, 3, &order);
+    }
+    if (status || order.choice != 2) return 8;
+    cpay_path_free(&path);
+    cpay_resend_limit_free(&limit);
+    return kept == before ? 0 : 9;
+}
+
+/* Reports that are written and read, and a packet that is rebuilt. A call without memory changes nothing. */
+static int reports(int *met) {
+    static const uint8_t sent[2][12] = {{0x80, 96, 0, 8, 0, 0, 0, 3, 0, 0, 0, 7}, {0x80, 96, 0, 9, 0, 0, 0, 3, 0, 0, 0, 7}};
+    static const uint8_t fec[14] = {0, 0, 0, 8, 0, 0, 0, 0, 0, 0, 0, 0, 0xc0, 0};
+    static const cpay_ccfb_packet packets[2] = {{.offset = 5, .ecn = 1, .arrived = true}};
+    long before = kept;
+    const cpay_xr_exchange exchange = {.peer_ssrc = 9, .has_peer = true};
+    cpay_ccfb_info info = {.sender_ssrc = 1, .ssrc = 7, .first = 8};
+    cpay_ccfb_packet read[2] = {{0}};
+    cpay_packet_store store = CPAY_INIT;
+    uint8_t bytes[64] = {0};
+    size_t size = 99;
+    cpay_status status;
+    AGAIN(status, cpay_xr_write(&exchange, 1, 1000, 1000, bytes, sizeof bytes, &size));
+    if (status || size != 44) return 1;
+    AGAIN(status, cpay_ccfb_write(&info, packets, 2, bytes, sizeof bytes, &size));
+    if (status || size != 24) return 2;
+    AGAIN(status, cpay_ccfb_read(bytes, size, false, 0, 0, &info, read, 2));
+    if (status || info.count != 2 || read[0].offset != 5 || read[1].arrived) return 3;
+    AGAIN(status, cpay_packet_store_new(&store, 512 * 100));
+    if (status) return 4;
+    refused = false;
+    status = cpay_packet_store_keep(&store, sent[0], 12);
+    if (status == CPAY_OUT_OF_MEMORY) {
+        (*met)++;
+        /* nothing is kept */
+        if (!refused || cpay_packet_store_rebuild(&store, 7, fec, sizeof fec, bytes, sizeof bytes, &size) != CPAY_NONE) return 5;
+        status = cpay_packet_store_keep(&store, sent[0], 12);
+    }
+    if (status) return 6;
+    size = 99;
+    refused = false;
+    status = cpay_packet_store_rebuild(&store, 7, fec, sizeof fec, bytes, sizeof bytes, &size);
+    if (status == CPAY_OUT_OF_MEMORY) {
+        (*met)++;
+        if (!refused || size != 99) return 7;
+        status = cpay_packet_store_rebuild(&store, 7, fec, sizeof fec, bytes, sizeof bytes, &size);
+    }
+    if (status || size != 12 || memcmp(bytes, sent[1], 12)) return 8;
+    cpay_packet_store_free(&store);
+    return kept == before ? 0 : 9;
+}
+
 /* A reporter with a name: packets arrive, with a gap, and are reported; the feedback is read with the times of sending. REMB. */
 static int transport(int *met) {
     long before = kept;
@@ -672,6 +761,34 @@ static int left_in_transport(void) {
     return 0;
 }
 
+/* A path with packets that wait, after feedback and a choice, and without; and a limit of retransmissions. */
+static int left_in_path(void) {
+    static const uint8_t feedback[24] = {0x8f, 205, 0, 5, 0, 0, 0, 1, 0, 0, 0, 7, 0, 0, 0, 2, 0, 0, 1, 0, 0x20, 2, 0, 0};
+    static const cpay_path_choice choices[2] = {{.rate = 1}, {.rate = 2}};
+    const cpay_resend_limit_settings limits = {.share = 250};
+    cpay_path_settings settings;
+    cpay_path_settings_init(&settings);
+    for (int stage = 0; stage < 3; stage++) {
+        long before = kept;
+        cpay_path path = CPAY_INIT;
+        cpay_resend_limit limit = CPAY_INIT;
+        cpay_path_leaving leaving = {0};
+        cpay_path_order_info order = {0};
+        if (cpay_path_new(&path, 0, &settings) || cpay_resend_limit_new(&limit, &limits)) return 1;
+        for (int i = 0; i < 3 * stage; i++) {
+            const cpay_path_packet packet = {.size = 100, .kind = (cpay_path_kind)(i % 4)};
+            if (cpay_path_push(&path, &packet)) return 2;
+        }
+        if (stage > 0 && cpay_path_pop(&path, 0, &leaving)) return 3;
+        if (stage > 1 && (cpay_path_feedback(&path, 0, 0, feedback, sizeof feedback, false, 0) || cpay_path_choose(&path, 0, choices, 2, &order)))
+            return 4;
+        cpay_path_free(&path);
+        cpay_resend_limit_free(&limit);
+        if (kept != before) return 5;
+    }
+    return 0;
+}
+
 /* Packets of one size: once a history is full, no call allocates. */
 static int resends_allocate(void) {
     const cpay_history_settings settings = {.limit = 4};
@@ -819,6 +936,7 @@ static int leaks(void) {
     if ((ended = left_in_session())) printf("memory left by a session: ended %d\n", ended), bad++;
     if ((ended = left_in_history())) printf("memory left by a history: ended %d\n", ended), bad++;
     if ((ended = left_in_transport())) printf("memory left by a transport: ended %d\n", ended), bad++;
+    if ((ended = left_in_path())) printf("memory left by a path: ended %d\n", ended), bad++;
     if ((ended = resends_allocate())) printf("resends in steady state: ended %d\n", ended), bad++;
     if ((ended = pops_allocate())) printf("pops in steady state: ended %d\n", ended), bad++;
     if ((ended = loans_allocate(1))) printf("loans in steady state: ended %d\n", ended), bad++;
@@ -839,6 +957,8 @@ static int session(int *met) {
     if (!ended) ended = waiting(met);
     if (!ended) ended = watching(met);
     if (!ended) ended = transport(met);
+    if (!ended) ended = paths(met);
+    if (!ended) ended = reports(met);
     if (!ended) ended = port(met);
     if (!ended) ended = ending(met);
     if (!ended) ended = choosing(met);

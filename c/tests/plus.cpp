@@ -291,6 +291,53 @@ void over_a_transport() {
     CHECK(cpay::read_remb(remb, false, 0, bitrate, sources, count) == CPAY_OK && bitrate == 1000 && count == 1 && sources[0] == 7);
 }
 
+void over_a_path() {
+    cpay_path_settings settings;
+    cpay_path_settings_init(&settings);
+    cpay_resend_limit_settings limits;
+    cpay_resend_limit_settings_init(&limits);
+    const std::uint8_t feedback[] = {0x8f, 205, 0, 5, 0, 0, 0, 1, 0, 0, 0, 7, 0, 0, 0, 1, 0, 0, 1, 0, 0x20, 1, 0, 0};
+    const cpay_path_choice choices[] = {{1000, 0}, {2000, 0}};
+    cpay_path_packet packet = {5, 100, CPAY_PATH_MEDIA};
+    cpay_path_leaving leaving = {};
+    cpay_path_order_info order = {};
+    cpay_path_state_info state = {};
+    cpay_resend_answer answer = CPAY_RESEND_SHARE;
+    std::uint64_t at = 9;
+    cpay::path path;
+    cpay::resend_limit limit;
+    CHECK(path.push(packet) == CPAY_EMPTY && path.make(0, settings) == CPAY_OK && limit.make(limits) == CPAY_OK);
+    CHECK(path.next_deadline(at) == CPAY_NONE && path.push(packet) == CPAY_OK && path.push(packet) == CPAY_OK);
+    CHECK(path.next_deadline(at) == CPAY_OK && at == 0 && path.remove(CPAY_PATH_MEDIA, packet) == CPAY_OK && packet.id == 5);
+    CHECK(path.pop(0, leaving) == CPAY_OK && leaving.packet.id == 5 && leaving.number == 0);
+    CHECK(path.feedback(50000, 50000, feedback, false, 0) == CPAY_OK && path.resend(50000, 1, 25, 50000, answer) == CPAY_OK);
+    CHECK(answer == CPAY_RESEND_NOW && path.choose(50000, choices, order) == CPAY_OK && order.choice == 1 && order.rose);
+    CHECK(path.state(state) == CPAY_OK && state.choice == 1 && state.waiting == 0);
+    CHECK(limit.sent(0, 100) == CPAY_OK && limit.ask(0, 1, 26, 1, answer) == CPAY_OK && answer == CPAY_RESEND_SHARE);
+}
+
+void over_reports() {
+    cpay_xr_exchange exchange = {};
+    cpay_ccfb_info info = {};
+    cpay_fec_info protects = {};
+    cpay_ccfb_packet packets[2] = {{5, 1, true}, {}};
+    std::array<std::uint8_t, 64> to = {};
+    std::size_t size = 0;
+    bool answered = true;
+    CHECK(cpay::xr_write(exchange, 1, 1000, 1000, to, size) == CPAY_OK && size == 20);
+    CHECK(cpay::xr_receive(exchange, 2, 1000, 0, cpay::bytes(to.data(), size), false, answered) == CPAY_OK && !answered);
+    CHECK(exchange.has_peer && exchange.peer_ssrc == 1 && !cpay_xr_sent(&exchange) && !exchange.has_peer);
+    CHECK(cpay::ccfb_write(info, packets, to, size) == CPAY_OK && size == 24);
+    CHECK(cpay::ccfb_read(cpay::bytes(to.data(), size), false, 0, 0, info, packets) == CPAY_OK && info.count == 2);
+    CHECK(packets[0].offset == 5 && packets[0].ecn == 1 && packets[0].arrived && !packets[1].arrived);
+    const std::uint8_t fec[] = {0, 0, 0, 8, 0, 0, 0, 0, 0, 0, 0, 0, 0xc0, 0};
+    const std::uint8_t sent[] = {0x80, 96, 0, 8, 0, 0, 0, 3, 0, 0, 0, 7};
+    cpay::packet_store store;
+    CHECK(cpay::fec_read(fec, protects) == CPAY_OK && protects.base == 8 && protects.mask == 0xc00000000000);
+    CHECK(store.keep(sent) == CPAY_EMPTY && store.make(51200) == CPAY_OK && store.keep(sent) == CPAY_OK);
+    CHECK(store.rebuild(7, fec, to, size) == CPAY_OK && size == 12 && to[3] == 9);
+}
+
 void over_red() {
     const std::uint32_t distances[] = {1};
     const std::uint8_t payload[] = {1, 2, 3};
@@ -318,6 +365,8 @@ int main() {
     over_freezes();
     over_rtcp();
     over_a_transport();
+    over_a_path();
+    over_reports();
     over_red();
     return checked();
 }

@@ -354,6 +354,66 @@ class UnitTooLarge(Error):
     status = 76
 
 
+class QueueFull(Error):
+    """More bytes would wait than the settings allow."""
+
+    status = 77
+
+
+class CcfbTooShort(RtcpError):
+    """Congestion control feedback is shorter than its SSRC and its timestamp."""
+
+    status = 78
+
+
+class CcfbBlockTooShort(RtcpError):
+    """Congestion control feedback ends inside the head of a block."""
+
+    status = 79
+
+
+class CcfbTooMany(RtcpError):
+    """Congestion control feedback has a block of more than 16384 packets."""
+
+    status = 80
+
+
+class CcfbMetricsTooShort(RtcpError):
+    """Congestion control feedback ends inside the packets of a block."""
+
+    status = 81
+
+
+class FecHeaderTooShort(Error):
+    """A packet of FEC is shorter than its header."""
+
+    status = 82
+
+
+class FecExtended(Error):
+    """A packet of FEC has its extension flag set."""
+
+    status = 83
+
+
+class FecLevelTooShort(Error):
+    """A packet of FEC ends inside the header of level 0."""
+
+    status = 84
+
+
+class FecEmptyMask(Error):
+    """A packet of FEC protects no packet."""
+
+    status = 85
+
+
+class FecPayloadTooShort(Error):
+    """A packet of FEC ends inside the payload of level 0."""
+
+    status = 86
+
+
 BY_STATUS: dict[int, type[Error]] = {
     it.status: it for it in list(globals().values()) if isinstance(it, type) and issubclass(it, Error) and it.status >= 0
 }

@@ -46,6 +46,18 @@ use crate::packets::sender::SenderReportInfo;
 use crate::packets::sender::SenderSettings;
 use crate::packets::transport::TransportReporterSettings;
 use crate::packets::vp8::Vp8FieldsInfo;
+use crate::path::ccfb::CcfbInfo;
+use crate::path::ccfb::CcfbPacket;
+use crate::path::exchange::XrExchange;
+use crate::path::fec::FecInfo;
+use crate::path::handle::PathHandle;
+use crate::path::path::PathChoice;
+use crate::path::path::PathLeaving;
+use crate::path::path::PathOrderInfo;
+use crate::path::path::PathPacket;
+use crate::path::path::PathStateInfo;
+use crate::path::path_settings::PathSettings;
+use crate::path::path_settings::ResendLimitSettings;
 use crate::receiving::adaptive_wait::AdaptiveWaitSettings;
 use crate::receiving::receiver::ReceiverCountsInfo;
 use crate::receiving::receiver::ReceiverSettings;
@@ -181,6 +193,49 @@ unsafe extern "C" fn cpay_buffer_counts(handle: &mut Handle, counts: &mut Buffer
     crate::calls::buffer::cpay_buffer_counts(handle, counts)
 }
 
+#[unsafe(export_name = "proved_cpay_ccfb_read")]
+unsafe extern "C" fn cpay_ccfb_read(
+    rtcp: *const u8,
+    rtcp_len: usize,
+    full: bool,
+    index: usize,
+    stream: usize,
+    info: &mut CcfbInfo,
+    packets: *mut CcfbPacket,
+    packets_len: usize,
+) -> u32 {
+    crate::calls::ccfb::cpay_ccfb_read(
+        unsafe { from_raw_parts(rtcp, rtcp_len) },
+        full,
+        index,
+        stream,
+        info,
+        unsafe { from_raw_parts_mut(packets, packets_len) },
+    )
+}
+
+#[unsafe(export_name = "proved_cpay_ccfb_write")]
+unsafe extern "C" fn cpay_ccfb_write(
+    info: &CcfbInfo,
+    packets: *const CcfbPacket,
+    packets_len: usize,
+    bytes: *mut u8,
+    bytes_len: usize,
+    size: &mut usize,
+) -> u32 {
+    crate::calls::ccfb::cpay_ccfb_write(
+        info,
+        unsafe { from_raw_parts(packets, packets_len) },
+        unsafe { from_raw_parts_mut(bytes, bytes_len) },
+        size,
+    )
+}
+
+#[unsafe(export_name = "proved_cpay_ccfb_offset")]
+unsafe extern "C" fn cpay_ccfb_offset(now: u64, time: u64) -> u16 {
+    crate::calls::ccfb::cpay_ccfb_offset(now, time)
+}
+
 #[unsafe(export_name = "proved_cpay_write_remb")]
 unsafe extern "C" fn cpay_write_remb(
     sender_ssrc: u32,
@@ -298,6 +353,53 @@ unsafe extern "C" fn cpay_depacketizer_clear(handle: &mut Handle) -> u32 {
     crate::calls::depacketizer::cpay_depacketizer_clear(handle)
 }
 
+#[unsafe(export_name = "proved_cpay_xr_receive")]
+unsafe extern "C" fn cpay_xr_receive(
+    exchange: &mut XrExchange,
+    ssrc: u32,
+    tick_rate: u32,
+    now: u64,
+    rtcp: *const u8,
+    rtcp_len: usize,
+    full: bool,
+    answered: &mut bool,
+) -> u32 {
+    crate::calls::exchange::cpay_xr_receive(
+        exchange,
+        ssrc,
+        tick_rate,
+        now,
+        unsafe { from_raw_parts(rtcp, rtcp_len) },
+        full,
+        answered,
+    )
+}
+
+#[unsafe(export_name = "proved_cpay_xr_write")]
+unsafe extern "C" fn cpay_xr_write(
+    exchange: &XrExchange,
+    ssrc: u32,
+    tick_rate: u32,
+    now: u64,
+    bytes: *mut u8,
+    bytes_len: usize,
+    size: &mut usize,
+) -> u32 {
+    crate::calls::exchange::cpay_xr_write(
+        exchange,
+        ssrc,
+        tick_rate,
+        now,
+        unsafe { from_raw_parts_mut(bytes, bytes_len) },
+        size,
+    )
+}
+
+#[unsafe(export_name = "proved_cpay_xr_sent")]
+unsafe extern "C" fn cpay_xr_sent(exchange: &mut XrExchange) -> bool {
+    crate::calls::exchange::cpay_xr_sent(exchange)
+}
+
 #[unsafe(export_name = "proved_cpay_extension")]
 unsafe extern "C" fn cpay_extension(
     datagram: *const u8,
@@ -326,6 +428,44 @@ unsafe extern "C" fn cpay_extension_values_of(
         unsafe { from_raw_parts(datagram, datagram_len) },
         ids,
         values,
+    )
+}
+
+#[unsafe(export_name = "proved_cpay_fec_read")]
+unsafe extern "C" fn cpay_fec_read(fec: *const u8, fec_len: usize, info: &mut FecInfo) -> u32 {
+    crate::calls::fec::cpay_fec_read(unsafe { from_raw_parts(fec, fec_len) }, info)
+}
+
+#[unsafe(export_name = "proved_cpay_packet_store_new")]
+unsafe extern "C" fn cpay_packet_store_new(handle: &mut PathHandle, bytes: usize) -> u32 {
+    crate::calls::fec::cpay_packet_store_new(handle, bytes)
+}
+
+#[unsafe(export_name = "proved_cpay_packet_store_keep")]
+unsafe extern "C" fn cpay_packet_store_keep(
+    handle: &mut PathHandle,
+    packet: *const u8,
+    packet_len: usize,
+) -> u32 {
+    crate::calls::fec::cpay_packet_store_keep(handle, unsafe { from_raw_parts(packet, packet_len) })
+}
+
+#[unsafe(export_name = "proved_cpay_packet_store_rebuild")]
+unsafe extern "C" fn cpay_packet_store_rebuild(
+    handle: &mut PathHandle,
+    ssrc: u32,
+    fec: *const u8,
+    fec_len: usize,
+    bytes: *mut u8,
+    bytes_len: usize,
+    size: &mut usize,
+) -> u32 {
+    crate::calls::fec::cpay_packet_store_rebuild(
+        handle,
+        ssrc,
+        unsafe { from_raw_parts(fec, fec_len) },
+        unsafe { from_raw_parts_mut(bytes, bytes_len) },
+        size,
     )
 }
 
@@ -764,6 +904,136 @@ unsafe extern "C" fn cpay_packet(
     crate::calls::packetizer::cpay_packet(handle, info, unsafe {
         from_raw_parts_mut(bytes, bytes_len)
     })
+}
+
+#[unsafe(export_name = "proved_cpay_path_object_free")]
+unsafe extern "C" fn cpay_path_object_free(handle: &mut PathHandle) {
+    crate::calls::path::cpay_path_object_free(handle)
+}
+
+#[unsafe(export_name = "proved_cpay_path_settings_init")]
+unsafe extern "C" fn cpay_path_settings_init(settings: &mut PathSettings) {
+    crate::calls::path::cpay_path_settings_init(settings)
+}
+
+#[unsafe(export_name = "proved_cpay_path_new")]
+unsafe extern "C" fn cpay_path_new(
+    handle: &mut PathHandle,
+    now: u64,
+    settings: &PathSettings,
+) -> u32 {
+    crate::calls::path::cpay_path_new(handle, now, settings)
+}
+
+#[unsafe(export_name = "proved_cpay_path_push")]
+unsafe extern "C" fn cpay_path_push(handle: &mut PathHandle, packet: &PathPacket) -> u32 {
+    crate::calls::path::cpay_path_push(handle, packet)
+}
+
+#[unsafe(export_name = "proved_cpay_path_pop")]
+unsafe extern "C" fn cpay_path_pop(
+    handle: &mut PathHandle,
+    now: u64,
+    leaving: &mut PathLeaving,
+) -> u32 {
+    crate::calls::path::cpay_path_pop(handle, now, leaving)
+}
+
+#[unsafe(export_name = "proved_cpay_path_remove")]
+unsafe extern "C" fn cpay_path_remove(
+    handle: &mut PathHandle,
+    kind: u32,
+    packet: &mut PathPacket,
+) -> u32 {
+    crate::calls::path::cpay_path_remove(handle, kind, packet)
+}
+
+#[unsafe(export_name = "proved_cpay_path_next_deadline")]
+unsafe extern "C" fn cpay_path_next_deadline(handle: &mut PathHandle, deadline: &mut u64) -> u32 {
+    crate::calls::path::cpay_path_next_deadline(handle, deadline)
+}
+
+#[unsafe(export_name = "proved_cpay_path_resend")]
+unsafe extern "C" fn cpay_path_resend(
+    handle: &mut PathHandle,
+    now: u64,
+    number: u16,
+    size: u32,
+    round_trip: u64,
+    answer: &mut u32,
+) -> u32 {
+    crate::calls::path::cpay_path_resend(handle, now, number, size, round_trip, answer)
+}
+
+#[unsafe(export_name = "proved_cpay_path_feedback")]
+unsafe extern "C" fn cpay_path_feedback(
+    handle: &mut PathHandle,
+    now: u64,
+    round_trip: u64,
+    rtcp: *const u8,
+    rtcp_len: usize,
+    full: bool,
+    index: usize,
+) -> u32 {
+    crate::calls::path::cpay_path_feedback(
+        handle,
+        now,
+        round_trip,
+        unsafe { from_raw_parts(rtcp, rtcp_len) },
+        full,
+        index,
+    )
+}
+
+#[unsafe(export_name = "proved_cpay_path_choose")]
+unsafe extern "C" fn cpay_path_choose(
+    handle: &mut PathHandle,
+    now: u64,
+    choices: *const PathChoice,
+    choices_len: usize,
+    order: &mut PathOrderInfo,
+) -> u32 {
+    crate::calls::path::cpay_path_choose(
+        handle,
+        now,
+        unsafe { from_raw_parts(choices, choices_len) },
+        order,
+    )
+}
+
+#[unsafe(export_name = "proved_cpay_path_state")]
+unsafe extern "C" fn cpay_path_state(handle: &mut PathHandle, state: &mut PathStateInfo) -> u32 {
+    crate::calls::path::cpay_path_state(handle, state)
+}
+
+#[unsafe(export_name = "proved_cpay_resend_limit_settings_init")]
+unsafe extern "C" fn cpay_resend_limit_settings_init(settings: &mut ResendLimitSettings) {
+    crate::calls::path_limit::cpay_resend_limit_settings_init(settings)
+}
+
+#[unsafe(export_name = "proved_cpay_resend_limit_new")]
+unsafe extern "C" fn cpay_resend_limit_new(
+    handle: &mut PathHandle,
+    settings: &ResendLimitSettings,
+) -> u32 {
+    crate::calls::path_limit::cpay_resend_limit_new(handle, settings)
+}
+
+#[unsafe(export_name = "proved_cpay_resend_limit_sent")]
+unsafe extern "C" fn cpay_resend_limit_sent(handle: &mut PathHandle, now: u64, size: u32) -> u32 {
+    crate::calls::path_limit::cpay_resend_limit_sent(handle, now, size)
+}
+
+#[unsafe(export_name = "proved_cpay_resend_limit_ask")]
+unsafe extern "C" fn cpay_resend_limit_ask(
+    handle: &mut PathHandle,
+    now: u64,
+    number: u16,
+    size: u32,
+    round_trip: u64,
+    answer: &mut u32,
+) -> u32 {
+    crate::calls::path_limit::cpay_resend_limit_ask(handle, now, number, size, round_trip, answer)
 }
 
 #[unsafe(export_name = "proved_cpay_receiver_new")]

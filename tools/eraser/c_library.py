@@ -9,9 +9,9 @@ from source import item_start
 from tokens import Token, close, elements, joined, plain
 
 # Files whose place in rust-c is taken by code that is written by hand, since only these turn pointers into boxes.
-BY_HAND = {("handle", "handle.rt"), ("handle", "loose.rt")}
+BY_HAND = {("handle", "handle.rt"), ("handle", "loose.rt"), ("c_path", "handle.rt"), ("c_path", "loose.rt")}
 # Modules that are not there, since a module that is written by hand does without them.
-LEFT_OUT = {("handle", "loose")}
+LEFT_OUT = {("handle", "loose"), ("c_path", "loose")}
 HEAD = "use core::slice::{from_raw_parts, from_raw_parts_mut};\n"
 DOC = """\
 //! The calls that `c/src/calls.c` makes: for each one the bytes and items at a pointer become a slice.

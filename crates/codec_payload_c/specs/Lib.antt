@@ -1,2 +1,5 @@
+pub mod Ccfb
+pub mod Exchanges
 pub mod Inspect
 pub mod Layers
+pub mod Paths

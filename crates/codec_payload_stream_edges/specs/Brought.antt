@@ -40,15 +40,18 @@ abbrev pub type_of_retransmission : Option Retransmission → Option ℕ
 type_of_retransmission None = None
 type_of_retransmission (Some it) = Some it.payload_type
 
-abbrev pub rules_of : Codec → Settings → EdgeRules
-rules_of codec s = record {
+abbrev pub rules_with : Codec → (descriptor : Option ℕ) → (payload_type : ℕ) → Option RedSettings → (retransmission : Option ℕ) → EdgeRules
+rules_with codec descriptor payload_type red retransmission = record {
   codec = codec;
-  descriptor = s.dependency_descriptor;
-  payload_type = s.payload_type;
-  red = type_of_red s.red;
-  retransmission = type_of_retransmission s.retransmission;
-  red_again = type_of_red_again s.red;
+  descriptor = descriptor;
+  payload_type = payload_type;
+  red = type_of_red red;
+  retransmission = retransmission;
+  red_again = type_of_red_again red;
 }
+
+abbrev pub rules_of : Codec → Settings → EdgeRules
+rules_of codec s = rules_with codec s.dependency_descriptor s.payload_type s.red (type_of_retransmission s.retransmission)
 
 abbrev pub has_ids : Codec → Bool
 has_ids codecs.Vp8 = true

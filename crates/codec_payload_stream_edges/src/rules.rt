@@ -4,7 +4,7 @@ ghost use Rattle.std.specs.Prelude.{◌≡◌};
 ghost use Rattle.std.specs.Option.{option_map};
 ghost use Rattle.codec_payload_rtp.specs.RtpReading.{rtp_at};
 ghost use Rattle.codec_payload_rtp.specs.RtpValues.{extension_of, header_of, packet_of};
-ghost use Rattle.codec_payload_stream_edges.specs.Brought.{at_edge, brought, brought_at, brought_of, can_say, edge_of, has_type, is_own_type, lone_block, original_payload, own_payload, rules_of, type_of_red, type_of_red_again, type_of_retransmission, whole};
+ghost use Rattle.codec_payload_stream_edges.specs.Brought.{at_edge, brought, brought_at, brought_of, can_say, edge_of, has_type, is_own_type, lone_block, original_payload, own_payload, rules_of, rules_with, type_of_red, type_of_red_again, type_of_retransmission, whole};
 
 use codec_payload_base::wire::Codec;
 use codec_payload_datagrams::parsed::ParsedDatagram;
@@ -42,18 +42,39 @@ pub(crate) struct Brought<'a> {
 }
 
 impl EdgeRules {
+    /// Returns the rules for a stream with this id of the dependency descriptor, this payload type, this RED, and this payload type of
+    /// retransmissions. Does not allocate.
+    #[inline(always)]
+    pub fn new(
+        codec: Codec,
+        descriptor: Option<u8>,
+        payload_type: u8,
+        red: Option<RedSettings>,
+        retransmission: Option<u8>,
+    ) -> EdgeRules
+        ensures { result ≡ rules_with codec descriptor payload_type red retransmission }
+    {
+        EdgeRules {
+            codec,
+            descriptor,
+            payload_type,
+            red: type_of_red(red),
+            retransmission,
+            red_again: type_of_red_again(red),
+        }
+    }
+
     /// Returns the rules for the stream of a receiver with these settings. Does not allocate.
     pub fn of(codec: Codec, settings: &Settings) -> EdgeRules
         ensures { result ≡ rules_of codec settings.now }
     {
-        EdgeRules {
+        EdgeRules::new(
             codec,
-            descriptor: settings.dependency_descriptor,
-            payload_type: settings.payload_type,
-            red: type_of_red(settings.red),
-            retransmission: type_of_retransmission(settings.retransmission),
-            red_again: type_of_red_again(settings.red),
-        }
+            settings.dependency_descriptor,
+            settings.payload_type,
+            settings.red,
+            type_of_retransmission(settings.retransmission),
+        )
     }
 
     /// Returns whether packets of the stream can say where pictures begin and end.

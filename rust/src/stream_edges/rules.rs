@@ -39,17 +39,37 @@ pub(crate) struct Brought<'a> {
 }
 
 impl EdgeRules {
+    /// Returns the rules for a stream with this id of the dependency descriptor, this payload type, this RED, and this payload type of
+    /// retransmissions. Does not allocate.
+    #[inline(always)]
+    #[must_use]
+    pub fn new(
+        codec: Codec,
+        descriptor: Option<u8>,
+        payload_type: u8,
+        red: Option<RedSettings>,
+        retransmission: Option<u8>,
+    ) -> EdgeRules {
+        EdgeRules {
+            codec,
+            descriptor,
+            payload_type,
+            red: type_of_red(red),
+            retransmission,
+            red_again: type_of_red_again(red),
+        }
+    }
+
     /// Returns the rules for the stream of a receiver with these settings. Does not allocate.
     #[must_use]
     pub fn of(codec: Codec, settings: &ReceiverSettings) -> EdgeRules {
-        EdgeRules {
+        EdgeRules::new(
             codec,
-            descriptor: settings.dependency_descriptor,
-            payload_type: settings.payload_type,
-            red: type_of_red(settings.red),
-            retransmission: type_of_retransmission(settings.retransmission),
-            red_again: type_of_red_again(settings.red),
-        }
+            settings.dependency_descriptor,
+            settings.payload_type,
+            settings.red,
+            type_of_retransmission(settings.retransmission),
+        )
     }
 
     /// Returns whether packets of the stream can say where pictures begin and end.

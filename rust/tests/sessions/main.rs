@@ -21,6 +21,7 @@ mod settings;
 mod streams;
 mod telephone;
 mod transport;
+mod units;
 mod waits;
 
 use std::alloc::{GlobalAlloc, Layout, System};

@@ -1,0 +1,279 @@
+/* The path to a viewer, and a limit of retransmissions alone. The times follow from the rates by hand; the feedback was written by hand
+ * after draft-holmer-rmcat-transport-wide-cc-extensions-01. */
+#include "check.h"
+#include "codec_payload.h"
+
+enum { UNTOUCHED = 0xaa, SSRC = 7, SENDER = 1 };
+
+/* Memory for a handle of either type, since after a cast a handle of one type may reach a call of the other. */
+typedef union {
+    cpay_path path;
+    cpay_resend_limit limit;
+} either;
+
+#define EITHER_INIT { CPAY_INIT }
+
+/* A path of 800 kbit/s, 100 bytes each millisecond, from which 1,000 bytes may leave at once. */
+static cpay_path path_of(uint64_t bound) {
+    cpay_path path = CPAY_INIT;
+    cpay_path_settings settings;
+    cpay_path_settings_init(&settings);
+    settings.start = 800000;
+    settings.burst = 1000;
+    settings.bound = bound;
+    CHECK(cpay_path_new(&path, 0, &settings) == CPAY_OK);
+    return path;
+}
+
+static cpay_status pushes(cpay_path *path, cpay_path_kind kind, uint32_t size, uint64_t id) {
+    const cpay_path_packet packet = {.id = id, .size = size, .kind = kind};
+    return cpay_path_push(path, &packet);
+}
+
+/* Whether the packet that leaves now has this name, kind and number. */
+static bool leaves(cpay_path *path, uint64_t now, uint64_t id, cpay_path_kind kind, uint16_t number) {
+    cpay_path_leaving leaving = {0};
+    if (cpay_path_pop(path, now, &leaving)) return false;
+    return leaving.packet.id == id && leaving.packet.kind == kind && leaving.number == number;
+}
+
+static bool nothing_leaves(cpay_path *path, uint64_t now) {
+    cpay_path_leaving leaving = {.packet = {.id = 77, .size = 7}, .number = 7};
+    return cpay_path_pop(path, now, &leaving) == CPAY_NONE && leaving.packet.id == 77 && leaving.packet.size == 7 && leaving.number == 7;
+}
+
+static uint64_t due(cpay_path *path) {
+    uint64_t at = 7777777;
+    cpay_status status = cpay_path_next_deadline(path, &at);
+    CHECK(status == CPAY_OK || (status == CPAY_NONE && at == 7777777));
+    return at;
+}
+
+static cpay_path_state_info state_of(cpay_path *path) {
+    cpay_path_state_info state = {0};
+    CHECK(cpay_path_state(path, &state) == CPAY_OK);
+    return state;
+}
+
+static void defaults(void) {
+    cpay_path_settings settings;
+    cpay_resend_limit_settings limit;
+    cpay_path_settings_init(&settings);
+    CHECK(settings.start == 300000 && settings.least == 50000 && settings.most == 10000000 && settings.choice == 0);
+    CHECK(settings.bound == 250000 && settings.burst == 2500 && settings.pause == 2000000);
+    CHECK(settings.half_window == 500000 && settings.share == 250);
+    cpay_resend_limit_settings_init(&limit);
+    CHECK(limit.half_window == 500000 && limit.share == 250);
+}
+
+/* Audio leaves first, then retransmissions, media and padding: two packets of 1,000 bytes at once, and then one each 10 ms. */
+static void pace(void) {
+    cpay_path path = path_of(250000);
+    CHECK(due(&path) == 7777777 && nothing_leaves(&path, 0));
+    CHECK(pushes(&path, CPAY_PATH_MEDIA, 1000, 1) == CPAY_OK && pushes(&path, CPAY_PATH_AUDIO, 1000, 2) == CPAY_OK);
+    CHECK(pushes(&path, CPAY_PATH_RESENT, 1000, 3) == CPAY_OK && pushes(&path, CPAY_PATH_PADDING, 1000, 4) == CPAY_OK);
+    CHECK(state_of(&path).waiting == 4000 && state_of(&path).estimate == 800000 && state_of(&path).choice == 0);
+    CHECK(due(&path) == 0 && leaves(&path, 0, 2, CPAY_PATH_AUDIO, 0) && leaves(&path, 0, 3, CPAY_PATH_RESENT, 1));
+    CHECK(due(&path) == 10000 && nothing_leaves(&path, 0) && nothing_leaves(&path, 9999));
+    CHECK(leaves(&path, 10000, 1, CPAY_PATH_MEDIA, 2) && due(&path) == 20000 && leaves(&path, 20000, 4, CPAY_PATH_PADDING, 3));
+    CHECK(due(&path) == 7777777 && nothing_leaves(&path, 1000000) && state_of(&path).waiting == 0);
+    cpay_path_free(&path);
+}
+
+/* What waits is removed, from the front of its kind; the bound counts the bytes of all kinds. */
+static void queues(void) {
+    cpay_path path = path_of(2500);
+    cpay_path_packet packet = {.id = 77};
+    CHECK(pushes(&path, CPAY_PATH_MEDIA, 1000, 1) == CPAY_OK && pushes(&path, CPAY_PATH_MEDIA, 1000, 2) == CPAY_OK);
+    CHECK(pushes(&path, CPAY_PATH_AUDIO, 501, 3) == CPAY_QUEUE_FULL && pushes(&path, CPAY_PATH_AUDIO, 500, 4) == CPAY_OK);
+    CHECK(pushes(&path, CPAY_PATH_AUDIO, UINT32_MAX, 5) == CPAY_QUEUE_FULL && pushes(&path, CPAY_PATH_AUDIO, 0, 6) == CPAY_OK);
+    CHECK(pushes(&path, (cpay_path_kind)4, 0, 7) == CPAY_INVALID && pushes(&path, (cpay_path_kind)-1, 0, 7) == CPAY_INVALID);
+    CHECK(cpay_path_remove(&path, (cpay_path_kind)4, &packet) == CPAY_INVALID && packet.id == 77);
+    CHECK(cpay_path_remove(&path, CPAY_PATH_PADDING, &packet) == CPAY_NONE && packet.id == 77);
+    CHECK(cpay_path_remove(&path, CPAY_PATH_MEDIA, &packet) == CPAY_OK && packet.id == 1 && packet.size == 1000);
+    CHECK(packet.kind == CPAY_PATH_MEDIA && state_of(&path).waiting == 1500);
+    CHECK(cpay_path_remove(&path, CPAY_PATH_MEDIA, &packet) == CPAY_OK && packet.id == 2);
+    CHECK(cpay_path_remove(&path, CPAY_PATH_MEDIA, &packet) == CPAY_NONE && state_of(&path).waiting == 500);
+    CHECK(leaves(&path, 0, 4, CPAY_PATH_AUDIO, 0) && leaves(&path, 0, 6, CPAY_PATH_AUDIO, 1));
+    cpay_path_free(&path);
+}
+
+static cpay_resend_answer asked(cpay_path *path, uint64_t now, uint16_t number, uint32_t size) {
+    cpay_resend_answer answer = (cpay_resend_answer)9;
+    CHECK(cpay_path_resend(path, now, number, size, 50000, &answer) == CPAY_OK);
+    return answer;
+}
+
+/* A quarter of what left for the first time, and each number once in a round trip of 50 ms. */
+static void resends(void) {
+    cpay_path path = path_of(250000);
+    CHECK(asked(&path, 0, 7, 1) == CPAY_RESEND_SHARE && asked(&path, 0, 7, 0) == CPAY_RESEND_NOW);
+    CHECK(pushes(&path, CPAY_PATH_MEDIA, 4000, 1) == CPAY_OK && asked(&path, 50000, 8, 1) == CPAY_RESEND_SHARE);
+    CHECK(leaves(&path, 50000, 1, CPAY_PATH_MEDIA, 0) && asked(&path, 50000, 8, 1001) == CPAY_RESEND_SHARE);
+    CHECK(asked(&path, 50000, 8, 1000) == CPAY_RESEND_NOW && asked(&path, 50000, 9, 1) == CPAY_RESEND_SHARE);
+    CHECK(asked(&path, 99999, 8, 1) == CPAY_RESEND_TOO_SOON && asked(&path, 100000, 8, 0) == CPAY_RESEND_NOW);
+    cpay_path_free(&path);
+
+    cpay_resend_limit limit = CPAY_INIT;
+    const cpay_resend_limit_settings settings = {.half_window = 500000, .share = 250};
+    cpay_resend_answer answer = (cpay_resend_answer)9;
+    CHECK(cpay_resend_limit_new(&limit, &settings) == CPAY_OK && cpay_resend_limit_new(&limit, &settings) == CPAY_FULL);
+    CHECK(cpay_resend_limit_sent(&limit, 0, 4000) == CPAY_OK);
+    CHECK(cpay_resend_limit_ask(&limit, 0, 7, 1000, 50000, &answer) == CPAY_OK && answer == CPAY_RESEND_NOW);
+    CHECK(cpay_resend_limit_ask(&limit, 49999, 7, 0, 50000, &answer) == CPAY_OK && answer == CPAY_RESEND_TOO_SOON);
+    CHECK(cpay_resend_limit_ask(&limit, 49999, 8, 1, 50000, &answer) == CPAY_OK && answer == CPAY_RESEND_SHARE);
+    for (uint16_t number = 8; number < 135; number++)
+        CHECK(cpay_resend_limit_ask(&limit, 49999, number, 0, 50000, &answer) == CPAY_OK && answer == CPAY_RESEND_NOW);
+    CHECK(cpay_resend_limit_ask(&limit, 49999, 200, 0, 50000, &answer) == CPAY_OK && answer == CPAY_RESEND_TOO_MANY);
+    /* the first one is a round trip ago, and its place is free again */
+    CHECK(cpay_resend_limit_ask(&limit, 50000, 200, 0, 50000, &answer) == CPAY_OK && answer == CPAY_RESEND_NOW);
+    /* the bytes that were sent count for less than a second */
+    CHECK(cpay_resend_limit_sent(&limit, 2000000, 4) == CPAY_OK);
+    CHECK(cpay_resend_limit_ask(&limit, 2000000, 300, 2, 50000, &answer) == CPAY_OK && answer == CPAY_RESEND_SHARE);
+    CHECK(cpay_resend_limit_ask(&limit, 2000000, 300, 1, 50000, &answer) == CPAY_OK && answer == CPAY_RESEND_NOW);
+    cpay_resend_limit_free(&limit);
+}
+
+/* Feedback about two packets from `base` on: a run of two symbols, and deltas of 0 for those that arrived. */
+static size_t feedback(uint8_t *bytes, uint8_t base, bool arrived) {
+    const uint8_t packet[24] = {0x8f, 205, 0, 5, 0, 0, 0, SENDER, 0, 0, 0, SSRC, 0, base, 0, 2, 0, 0, 1, 0, arrived ? 0x20 : 0, 2, 0, 0};
+    memcpy(bytes, packet, sizeof packet);
+    return sizeof packet;
+}
+
+/* Fifty packets of 1,000 bytes leave, one each 10 ms. If the viewer has none of them, the estimate becomes a half less a twentieth, since
+ * no packet shows what the path carries. What did not leave counts for nothing. */
+static void hears(void) {
+    cpay_path path = path_of(250000);
+    uint8_t bytes[48];
+    size_t size = feedback(bytes, 0, false);
+    for (uint16_t i = 0; i < 50; i++) {
+        CHECK(pushes(&path, CPAY_PATH_MEDIA, 1000, i) == CPAY_OK);
+        CHECK(leaves(&path, (uint64_t)i * 10000, i, CPAY_PATH_MEDIA, i));
+    }
+    size = feedback(bytes, 100, false);
+    CHECK(cpay_path_feedback(&path, 500000, 50000, bytes, size, false, 0) == CPAY_OK && state_of(&path).estimate == 800000);
+    CHECK(cpay_path_feedback(&path, 500000, 50000, bytes, size, false, 1) == CPAY_NONE);
+    CHECK(cpay_path_feedback(&path, 500000, 50000, bytes, size, true, 0) == CPAY_RTCP_FIRST_NOT_REPORT);
+    CHECK(cpay_path_feedback(&path, 500000, 50000, bytes, 23, false, 0) == CPAY_RTCP_PACKET_TOO_SHORT);
+    CHECK(cpay_path_feedback(&path, 500000, 50000, NULL, 0, false, 0) == CPAY_RTCP_HEADER_TOO_SHORT);
+    CHECK(cpay_path_feedback(&path, 500000, 50000, NULL, 1, false, 0) == CPAY_INVALID);
+    bytes[3] = 3;
+    CHECK(cpay_path_feedback(&path, 500000, 50000, bytes, 16, false, 0) == CPAY_TRANSPORT_HEADER_TOO_SHORT);
+    bytes[3] = 4;
+    CHECK(cpay_path_feedback(&path, 500000, 50000, bytes, 20, false, 0) == CPAY_TRANSPORT_CHUNKS_TOO_SHORT);
+    size = feedback(bytes, 0, true);
+    bytes[20] = 0x60;
+    CHECK(cpay_path_feedback(&path, 500000, 50000, bytes, size, false, 0) == CPAY_TRANSPORT_RESERVED);
+    bytes[20] = 0x40; /* two deltas of two bytes */
+    CHECK(cpay_path_feedback(&path, 500000, 50000, bytes, size, false, 0) == CPAY_TRANSPORT_DELTAS_TOO_SHORT);
+    CHECK(state_of(&path).estimate == 800000);
+    for (uint8_t base = 0; base < 50; base = (uint8_t)(base + 2)) {
+        CHECK(state_of(&path).estimate == 800000);
+        /* the second of two packets of RTCP */
+        size = feedback(bytes, 100, true);
+        size += feedback(bytes + size, base, false);
+        CHECK(cpay_path_feedback(&path, 500000 + (uint64_t)base * 50000, 50000, bytes, size, false, 1) == CPAY_OK);
+    }
+    CHECK(state_of(&path).estimate == 380000);
+    cpay_path_free(&path);
+}
+
+/* The highest choice whose rate, and 5 percent if it is above the current one, is within the estimate. */
+static void chooses(void) {
+    static const cpay_path_choice choices[3] = {{.rate = 100000}, {.rate = 400000}, {.rate = 900000, .begin = 1000000}};
+    cpay_path path = path_of(250000);
+    cpay_path_order_info order = {.choice = 9, .padding = 9, .fell = true};
+    CHECK(cpay_path_choose(&path, 10000, choices, 3, &order) == CPAY_OK);
+    CHECK(order.choice == 1 && order.rose && !order.fell && state_of(&path).choice == 1);
+    CHECK(cpay_path_choose(&path, 20000, choices, 3, &order) == CPAY_OK && order.choice == 1 && !order.rose && !order.fell);
+    CHECK(cpay_path_choose(&path, 30000, choices, 1, &order) == CPAY_OK && order.choice == 0 && order.fell && !order.rose);
+    /* no rise in the two seconds after a fall */
+    CHECK(cpay_path_choose(&path, 40000, choices, 3, &order) == CPAY_OK && order.choice == 0 && !order.fell);
+    CHECK(cpay_path_choose(&path, 2030000, choices, 3, &order) == CPAY_OK && order.choice == 1 && order.rose);
+    CHECK(cpay_path_choose(&path, 2040000, NULL, 0, &order) == CPAY_OK && order.choice == 0 && order.padding <= 6000);
+    CHECK(cpay_path_choose(&path, 2050000, NULL, 1, &order) == CPAY_INVALID);
+    cpay_path_free(&path);
+}
+
+/* Calls on handles that are empty or of the other type, which change nothing. */
+static void handles(void) {
+    either it = EITHER_INIT;
+    const cpay_resend_limit_settings limits = {.share = 250};
+    cpay_path_settings settings;
+    cpay_path_packet packet = {.id = 7};
+    cpay_path_leaving leaving = {.number = 7};
+    cpay_path_order_info order = {.choice = 7};
+    cpay_path_state_info state = {.choice = 7};
+    cpay_resend_answer answer = CPAY_RESEND_SHARE;
+    uint64_t at = 7;
+    uint8_t bytes[24];
+    size_t size = feedback(bytes, 0, true);
+    cpay_path_settings_init(&settings);
+    cpay_path_free(NULL);
+    cpay_resend_limit_free(NULL);
+    for (int kind = 0; kind < 2; kind++) {
+        cpay_status status = kind == 0 ? CPAY_EMPTY : CPAY_OTHER_KIND;
+        if (kind == 1) CHECK(cpay_resend_limit_new(&it.limit, &limits) == CPAY_OK && cpay_path_new(&it.path, 0, &settings) == CPAY_FULL);
+        CHECK(cpay_path_push(&it.path, &packet) == status && cpay_path_pop(&it.path, 0, &leaving) == status && leaving.number == 7);
+        CHECK(cpay_path_remove(&it.path, CPAY_PATH_AUDIO, &packet) == status && packet.id == 7);
+        CHECK(cpay_path_next_deadline(&it.path, &at) == status && at == 7);
+        CHECK(cpay_path_resend(&it.path, 0, 1, 0, 0, &answer) == status && answer == CPAY_RESEND_SHARE);
+        CHECK(cpay_path_feedback(&it.path, 0, 0, bytes, size, false, 0) == status);
+        CHECK(cpay_path_choose(&it.path, 0, NULL, 0, &order) == status && order.choice == 7);
+        CHECK(cpay_path_state(&it.path, &state) == status && state.choice == 7);
+    }
+    cpay_path_free(&it.path);
+    for (int kind = 0; kind < 2; kind++) {
+        cpay_status status = kind == 0 ? CPAY_EMPTY : CPAY_OTHER_KIND;
+        if (kind == 1) CHECK(cpay_path_new(&it.path, 0, &settings) == CPAY_OK && cpay_path_new(&it.path, 0, &settings) == CPAY_FULL);
+        CHECK(cpay_resend_limit_sent(&it.limit, 0, 1) == status);
+        CHECK(cpay_resend_limit_ask(&it.limit, 0, 1, 0, 0, &answer) == status && answer == CPAY_RESEND_SHARE);
+    }
+    cpay_resend_limit_free(&it.limit);
+    CHECK(cpay_path_state(&it.path, &state) == CPAY_EMPTY);
+}
+
+/* Bytes at random as feedback, times that jump, sizes at their bounds: each outcome has a status, and the estimate keeps its bounds. */
+static void hostile(void) {
+    static const uint64_t times[4] = {0, 1, UINT64_MAX, 1ull << 63};
+    cpay_path path = path_of(UINT64_MAX);
+    uint32_t seed = 12345;
+    bool good = true;
+    for (int round = 0; round < 20000; round++) {
+        uint8_t bytes[48];
+        size_t size = feedback(bytes, (uint8_t)round, round % 3);
+        for (int change = 0; change < 3; change++) {
+            seed = seed * 1664525 + 1013904223;
+            bytes[14 + (seed >> 16) % 10] = (uint8_t)(seed >> 8);
+        }
+        uint64_t now = round % 97 == 0 ? times[seed >> 30] : (uint64_t)round * 1000;
+        cpay_path_leaving leaving = {0};
+        cpay_path_order_info order = {0};
+        cpay_resend_answer answer = CPAY_RESEND_NOW;
+        cpay_path_choice choices[2] = {{.rate = seed}, {.rate = (uint64_t)seed << 32, .begin = UINT64_MAX}};
+        good &= pushes(&path, (cpay_path_kind)(seed >> 13 & 3), round % 50 ? seed >> 22 : UINT32_MAX, seed) <= CPAY_QUEUE_FULL;
+        cpay_status status = cpay_path_pop(&path, now, &leaving);
+        good &= status == CPAY_OK || status == CPAY_NONE;
+        status = cpay_path_feedback(&path, now, seed, bytes, size, false, 0);
+        good &= status == CPAY_OK || (status >= CPAY_TRANSPORT_HEADER_TOO_SHORT && status <= CPAY_TRANSPORT_DELTAS_TOO_SHORT);
+        good &= cpay_path_resend(&path, now, (uint16_t)seed, seed >> 20, seed, &answer) == CPAY_OK && answer <= CPAY_RESEND_TOO_MANY;
+        good &= cpay_path_choose(&path, now, choices, 2, &order) == CPAY_OK && order.choice < 2 && order.padding <= 6000;
+        cpay_path_state_info state = state_of(&path);
+        good &= state.estimate >= 50000 && state.estimate <= 10000000;
+    }
+    CHECK(good);
+    cpay_path_free(&path);
+}
+
+int main(void) {
+    defaults();
+    pace();
+    queues();
+    resends();
+    hears();
+    chooses();
+    handles();
+    hostile();
+    return checked();
+}

@@ -1,0 +1,3 @@
+mod MetricPlaces
+mod PlaceSteps
+mod Values

@@ -1,0 +1,10 @@
+pub mod Bytes
+pub mod Ccfb
+pub mod Exchanges
+pub mod Fec
+pub mod Kinds
+pub mod Limits
+pub mod Owned
+pub mod Paths
+pub mod Settings
+pub mod Writing

@@ -1,0 +1,14 @@
+pub mod BeginLemmas
+pub mod CallEvents
+pub mod CopyLemmas
+pub mod ExampleLemmas
+pub mod RedCalls
+pub mod RedExampleLemmas
+pub mod RedLogs
+pub mod RedUnits
+pub mod SentLemmas
+pub mod ShownLemmas
+pub mod StreamLogs
+pub mod TellLemmas
+pub mod TheoremLemmas
+pub mod UnitLemmas
