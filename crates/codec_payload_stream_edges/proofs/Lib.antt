@@ -1,4 +1,5 @@
 pub mod AgreementLemmas
+pub mod FittingLemmas
 pub mod GapLemmas
 pub mod OwnLemmas
 pub mod RangeLemmas

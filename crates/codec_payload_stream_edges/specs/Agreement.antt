@@ -1,10 +1,14 @@
 -- The packet that is followed is the one that the receiver stores.
-use Rattle.std.specs.Prelude.{◌≡◌, ℕ, false, List, Option, Some, None, IfSome}
+use Rattle.std.specs.Prelude.{◌≡◌, ℕ, false, List, Option, Some, None, IfSome, Ok}
 use Rattle.std.specs.Option.{option_map}
+use Rattle.codec_payload_base.specs.declared.wire.Codec.{Codec}
+use Rattle.codec_payload_codec.specs.Depacketizers.{DepacketizerState}
 use Rattle.codec_payload_datagrams.specs.Kinds.{Kinds, datagram_at}
 use Rattle.codec_payload_datagrams.specs.declared.kinds.RedStream.{RedStream}
 use Rattle.codec_payload_receiver.specs.Noting.{MediaPacket as ReceiversPacket, media_in}
-use Rattle.codec_payload_stream_edges.specs.Brought.{MediaPacket, brought_at, has_type, is_own_type}
+use Rattle.codec_payload_receiver.specs.Sessions.{Session, session_by}
+use Rattle.codec_payload_receiver.specs.declared.receiver.Settings.{Settings}
+use Rattle.codec_payload_stream_edges.specs.Brought.{MediaPacket, brought_at, has_type, is_own_type, rules_of, type_of_red_again}
 use Rattle.codec_payload_stream_edges.specs.declared.rules.EdgeRules.{EdgeRules}
 
 abbrev pub again_type : Option RedStream → Option ℕ
@@ -35,3 +39,11 @@ Agree (Some m) (Some n) = IsSamePacket m n
 -- bytes, both are the same
 abbrev pub FollowsWhatIsStored : Type 0
 FollowsWhatIsStored = (k : EdgeRules) (s : Kinds) → FitsTo k s → (ssrc : ℕ) (bytes : List ℕ) → Agree (brought_at k ssrc bytes) (media_in s (datagram_at s (Some ssrc) bytes))
+
+-- the rules that are made of settings have the payload types of each receiver with these settings
+abbrev pub RulesFit : Type 0
+RulesFit =
+    (codec : Codec) (settings : Settings) (depacketizer : DepacketizerState) (s : Session) → session_by settings depacketizer ≡ Ok s
+    → IfSome settings.retransmission (λ r. is_own_type (rules_of codec settings) r.payload_type ≡ false)
+    → IfSome (type_of_red_again settings.red) (λ t. (is_own_type (rules_of codec settings) t ≡ false) × (has_type (rules_of codec settings).retransmission t ≡ false))
+    → FitsTo (rules_of codec settings) s.stream

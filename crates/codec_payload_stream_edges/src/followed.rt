@@ -66,7 +66,7 @@ impl Followed {
         receiver: &mut Receiver<B>,
     ) -> Result<(), AllocError>
         ensures heard { HearsEdge number edge (of_sender sender self.old) receiver.old.packets result self.new receiver.new.packets }
-        ensures beside { receiver.new ≡ record receiver.old { packets = receiver.new.packets } }
+        ensures beside { receiver.new ≡ record receiver.old { packets = record receiver.old.packets { no_media_numbers = receiver.new.packets.no_media_numbers } } }
     {
         self.go_over_to(sender);
         let gaps = self.pictures.hear(number, edge);
@@ -93,7 +93,7 @@ impl Followed {
     ) -> Result<(), AllocError>
         requires { IfSome range (λ r. r.after < r.before) }
         ensures noted { NotesLater range first self.old receiver.old.packets result self.new receiver.new.packets }
-        ensures beside { receiver.new ≡ record receiver.old { packets = receiver.new.packets } }
+        ensures beside { receiver.new ≡ record receiver.old { packets = record receiver.old.packets { no_media_numbers = receiver.new.packets.no_media_numbers } } }
     {
         first?;
         if !self.pictures.is_trusted() {
@@ -110,7 +110,7 @@ impl Followed {
     ) -> Result<(), AllocError>
         requires { IfSome range (λ r. r.after < r.before) }
         ensures noted { NotesGap range self.old receiver.old.packets result self.new receiver.new.packets }
-        ensures beside { receiver.new ≡ record receiver.old { packets = receiver.new.packets } }
+        ensures beside { receiver.new ≡ record receiver.old { packets = record receiver.old.packets { no_media_numbers = receiver.new.packets.no_media_numbers } } }
     {
         let Some(range) = range else {
             return Ok(());

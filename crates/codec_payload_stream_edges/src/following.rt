@@ -20,7 +20,7 @@ use std::marker::Model;
 /// requested again and again, hold frames back for `max_wait`, and cost a keyframe. The picture ids of VP8 and VP9, and the frame_numbers
 /// of the dependency descriptor, show that no media lies between two pictures. See [`StreamEdges::follow`].
 ///
-/// It takes one word, and 1.7 kB on the heap from the first packet on that begins or ends a picture with an id.
+/// It takes one word, and 1.5 kB on the heap from the first packet on that begins or ends a picture with an id.
 #[derive(Debug, Drop)]
 pub struct StreamEdges {
     alloc: Global,
@@ -95,7 +95,7 @@ impl StreamEdges {
         answer: &Result<Outcome, ReceiveError>,
     ) -> Result<(), AllocError>
         ensures follows { Follows rules.now datagram.now answer.now self.old receiver.old result self.new receiver.new }
-        ensures beside { receiver.new ≡ record receiver.old { packets = receiver.new.packets } }
+        ensures beside { receiver.new ≡ record receiver.old { packets = record receiver.old.packets { no_media_numbers = receiver.new.packets.no_media_numbers } } }
     {
         if !rules.can_say() || !has_come(answer) {
             return Ok(());
@@ -113,7 +113,7 @@ impl StreamEdges {
         is_stored: bool,
     ) -> Result<(), AllocError>
         ensures follows { FollowsMedia rules.now datagram.now is_stored self.old receiver.old result self.new receiver.new }
-        ensures beside { receiver.new ≡ record receiver.old { packets = receiver.new.packets } }
+        ensures beside { receiver.new ≡ record receiver.old { packets = record receiver.old.packets { no_media_numbers = receiver.new.packets.no_media_numbers } } }
     {
         let Some(ssrc) = receiver.ssrc() else {
             return Ok(());
@@ -151,7 +151,7 @@ impl StreamEdges {
         receiver: &mut Receiver<B>,
     ) -> Result<(), AllocError>
         ensures heard { HearsFor sender number edge self.old receiver.old.packets result self.new receiver.new.packets }
-        ensures beside { receiver.new ≡ record receiver.old { packets = receiver.new.packets } }
+        ensures beside { receiver.new ≡ record receiver.old { packets = record receiver.old.packets { no_media_numbers = receiver.new.packets.no_media_numbers } } }
     {
         if let Some(followed) = &mut self.followed {
             return followed.hear(sender, number, edge, receiver);

@@ -18,10 +18,8 @@ use codec_payload_rtp::values::extension_value;
 pub struct EdgeRules {
     /// The codec of the stream. VP8 and VP9 have PictureIDs; packets of other codecs say it by the dependency descriptor alone.
     pub codec: Codec,
-    /// The id of the header extension element with the dependency descriptor: [`Settings::dependency_descriptor`]. A packet that has
-    /// the element says it by its frame_number, and not by a PictureID.
-    ///
-    /// [`Settings::dependency_descriptor`]: codec_payload_receiver::receiver::Settings::dependency_descriptor
+    /// The id of the header extension element with the dependency descriptor, 1 to 255: `dependency_descriptor` of the receiver's
+    /// settings. A packet that has the element says it by its frame_number, and not by a PictureID.
     pub descriptor: Option<u8>,
     /// The payload type of the stream, 0 to 127.
     pub payload_type: u8,

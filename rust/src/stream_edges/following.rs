@@ -17,7 +17,7 @@ use crate::stream_edges::rules::EdgeRules;
 /// requested again and again, hold frames back for `max_wait`, and cost a keyframe. The picture ids of VP8 and VP9, and the frame_numbers
 /// of the dependency descriptor, show that no media lies between two pictures. See [`StreamEdges::follow`].
 ///
-/// It takes one word, and 1.7 kB on the heap from the first packet on that begins or ends a picture with an id.
+/// It takes one word, and 1.5 kB on the heap from the first packet on that begins or ends a picture with an id.
 #[derive(Debug)]
 pub struct StreamEdges {
     followed: Option<One<Followed>>,
