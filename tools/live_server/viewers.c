@@ -9,12 +9,13 @@
 enum {
     REPORT_INTERVAL = 1000, /* ms between two sender reports */
     MOST_RESENT = 100,      /* packets in a tick of 50 ms: nobody makes the server a source of floods */
-    MOST_CREDIT = 60000,    /* bytes that are resent at once, at most; each byte that is sent gives half a byte of credit */
-    MOST_ANSWERED = 1024,   /* numbers of which is known when they were resent last */
+    SHARE = 500,            /* thousandths: at most half of the bytes that are sent are sent again */
+    HALF_WINDOW = 500,      /* ms: half of the time whose bytes count for that */
     MOST_FILLED = 64,       /* packets of padding that are kept for requests */
     FILLED_FOR = 5000,      /* ms: numbers come again after 65,536 packets */
     EARLY = 64,             /* packets of a keyframe that may come before its first one */
     RED_BUDGET = 1200,      /* bytes of a RED payload */
+    FULL = 1200,            /* bytes of a packet of video */
     ALL_LAYERS = 3,
     HEADER = 12 /* bytes of an RTP header without extension */
 };
@@ -27,11 +28,7 @@ struct outgoing {
     int track, wanted;    /* the publisher's track that it gets, and the one to go over to */
     int temporal, layers; /* the highest temporal layer that it is to get, and that of the picture that it gets now */
     unsigned resent_now;  /* in this tick */
-    size_t credit;        /* bytes that may be resent: a narrow link is not filled with retransmissions, whose losses are requested again */
-    struct {
-        uint16_t number;
-        uint64_t at; /* ms */
-    } answered[MOST_ANSWERED];
+    cpay_resend_limit limit; /* a narrow link is not filled with retransmissions, whose losses are requested again */
     uint64_t requested, refused, not_kept, keyframes_wanted;
     uint64_t report_sent;  /* ms */
     uint32_t report_ntp;   /* the middle 32 bits of its NTP time */
@@ -49,10 +46,11 @@ static uint64_t rate_of(int kind) { return kind == AUDIO ? 48000 : 90000; }
 static bool begin_stream(outgoing *to, const agreed *media) {
     static const uint32_t distance[] = {1};
     cpay_forwarder_settings settings;
+    cpay_resend_limit_settings limit = {.half_window = HALF_WINDOW, .share = SHARE};
     secret(&to->ssrc, sizeof to->ssrc);
     to->temporal = to->layers = ALL_LAYERS;
-    to->credit = MOST_CREDIT;
     if (!media->used) return true;
+    if (cpay_resend_limit_new(&to->limit, &limit)) return false;
     cpay_forwarder_settings_init(&settings, media->codec, to->ssrc, media->payload_type);
     secret(&settings.first_time, sizeof settings.first_time);
     secret(&settings.first_number, sizeof settings.first_number);
@@ -144,7 +142,7 @@ static bool forward_to(peer *it, peer *from, int track, const uint8_t *datagram,
     size_t size = write_packet(to, kind, media->codec, datagram, datagram_len, out, &done);
     if (size == 0) return false;
     if (media->red_payload_type) size = wrap(to, media->red_payload_type, out, size);
-    to->credit = MIN(MOST_CREDIT, to->credit + size / 2);
+    if (cpay_resend_limit_sent(&to->limit, now_ms(), (uint32_t)size)) return false;
     srtp_send(it, out, size, false);
     if (done == CPAY_FORWARDED_BEGAN) to->track = track;
     return done == CPAY_FORWARDED_BEGAN;
@@ -173,15 +171,14 @@ bool viewers_forward(peer *from, int track, const uint8_t *datagram, size_t size
 
 /* ---- RTCP of a viewer ---- */
 
-/* Whether a packet may be resent: each number once in a round trip, and as many bytes as there is credit for. */
+/* Whether a packet may be resent: each number once in a round trip, and a share of the bytes that are sent. Its size is not known
+ * before it is written, so it counts as a full one. */
 static bool may_resend(outgoing *to, uint16_t number) {
-    uint64_t now = now_ms();
-    size_t place = number % MOST_ANSWERED;
-    bool again = to->answered[place].number == number && now - to->answered[place].at < to->round_trip + 10;
-    if (again || to->credit < MOST_DATAGRAM || ++to->resent_now > MOST_RESENT) return false;
-    to->answered[place].number = number;
-    to->answered[place].at = now;
-    return true;
+    cpay_resend_answer answer = CPAY_RESEND_SHARE;
+    if (to->resent_now == MOST_RESENT) return false;
+    if (cpay_resend_limit_ask(&to->limit, now_ms(), number, FULL, to->round_trip + 10, &answer)) return false;
+    to->resent_now += answer == CPAY_RESEND_NOW;
+    return answer == CPAY_RESEND_NOW;
 }
 
 static void resend(peer *it, outgoing *to, cpay_history *store, uint16_t number) {
@@ -202,7 +199,6 @@ static void resend(peer *it, outgoing *to, cpay_history *store, uint16_t number)
     if (cpay_forwarder_resend(&to->forwarder, store, number, out, MOST_DATAGRAM, &size, &resent)) return;
     to->not_kept += resent == CPAY_RESENT_NOT_KEPT;
     if (resent != CPAY_RESENT_WRITTEN) return;
-    to->credit -= size;
     srtp_send(it, out, size, false);
 }
 
@@ -305,6 +301,7 @@ void viewer_stats(peer *it, FILE *to) {
 void viewer_free(peer *it) {
     for (int kind = 0; kind < KINDS; kind++) {
         cpay_forwarder_free(&it->viewer[kind].forwarder);
+        cpay_resend_limit_free(&it->viewer[kind].limit);
         cpay_red_sender_free(&it->viewer[kind].red);
     }
     free(it->viewer);
