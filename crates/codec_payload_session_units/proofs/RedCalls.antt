@@ -1,5 +1,5 @@
 -- The calls of a stream's receiver in RED, as a course of its buffer. Wait limits may change between them.
-use Rattle.std.proofs.Common.{◌≡◌, ◌≢◌, ◌∙◌, refl, sym, ap, subst, ℕ, ◌+◌, ◌%◌, ◌^◌, List, [], ◌∷◌, Bool, true, false, not, inl, inr, Option, Some, None, Result, Ok, Err}
+use Rattle.std.proofs.Common.{◌≡◌, ◌∙◌, refl, sym, ap, subst, ℕ, ◌+◌, ◌%◌, ◌^◌, List, [], ◌∷◌, Bool, true, false, not, inl, inr, Option, Some, None, Result}
 use Rattle.std.specs.Prelude.{slice_get, Contains}
 use Rattle.std.specs.declared.alloc.AllocError.{AllocError}
 use Rattle.codec_payload_base.specs.declared.wire.Ticks.{Ticks}
@@ -30,7 +30,6 @@ use Rattle.codec_payload_receiver.specs.Pops.{answer_of}
 use Rattle.codec_payload_receiver.specs.Sessions.{Session as Receiver, ended}
 use Rattle.codec_payload_receiver.specs.declared.pops.Popped.{Popped}
 use Rattle.codec_payload_receiver.specs.declared.receiver.ReceiveError.{ReceiveError}
-use Rattle.codec_payload_receiver.specs.declared.receiver.ReceiveError.TheVariants as errors
 use Rattle.codec_payload_sending_history.specs.declared.retransmission.RetransmissionStream.{RetransmissionStream}
 use Rattle.codec_payload_session_stream.specs.Streams.{is_no_memory}
 use Rattle.codec_payload_session_runs.specs.Lives.{ReceiverCall, RunsAlone, finishes, follows, pairs, pops, receives, reports, waits, with_shown}

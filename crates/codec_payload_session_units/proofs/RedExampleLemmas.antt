@@ -1,17 +1,15 @@
 -- The premises of the theorem in RED can be met.
-use Rattle.std.proofs.Common.{◌≡◌, ◌≢◌, refl, sym, ap, subst, ℕ, ◌%◌, ◌<◌, ◌≤◌, List, [], ◌∷◌, inl, inr, Option, Some, None, false, length, arith, lit<, lit≤}
+use Rattle.std.proofs.Common.{◌≡◌, refl, sym, ap, subst, ◌%◌, [], ◌∷◌, inl, inr, false, arith, lit<, lit≤}
 use Rattle.std.proofs.lemmas.Option.{same_Some}
 use Rattle.codec_payload_codec.specs.Depacketizers.{DepacketizerState, OpusDepacketizing, configured_depacketizer, kind_of_depacketizer}
-use Rattle.codec_payload_datagram_runs.specs.RedReleases.{entries_in}
 use Rattle.codec_payload_datagram_runs.specs.RedRunExample.{frame_entries, red_used, red_writer}
 use Rattle.codec_payload_datagram_runs.specs.WireRunExample.{frames_sent, one_each, opus_sender}
 use Rattle.codec_payload_keyframes.specs.UnitGates.{drops_units}
 use Rattle.codec_payload_keyframes.specs.declared.unit_gate.FromKeyframe.TheVariants as modes
-use Rattle.codec_payload_metadata.specs.Release.{Release}
 use Rattle.codec_payload_red.specs.RedRun.{IsRecoverable}
 use Rattle.codec_payload_session_formats.specs.declared.formats.SessionSettings.{SessionSettings}
-use Rattle.codec_payload_session_units.specs.OneRedSender.{IsOneRedSenders, IsRedSenderFor}
-use Rattle.codec_payload_session_units.specs.RedExample.{AreSentInRed, IsRedSendersAt, RedStreamCanBeMet, SentInRed, calls_in_red, red_format}
+use Rattle.codec_payload_session_units.specs.OneRedSender.{IsRedSenderFor}
+use Rattle.codec_payload_session_units.specs.RedExample.{RedStreamCanBeMet, red_format}
 
 red_sender_for : (settings : SessionSettings) → settings.from_keyframe ≡ modes.Mark → IsRedSenderFor settings 7 red_format opus_sender red_writer red_used
 red_sender_for settings mode = record {

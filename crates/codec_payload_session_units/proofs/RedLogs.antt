@@ -1,9 +1,8 @@
 -- The log of a stream's receiver in RED, and a log as a chain of turns.
-use Rattle.std.proofs.Common.{◌≡◌, ◌≢◌, ◌∙◌, refl, sym, ap, subst, ℕ, ◌+◌, ◌*◌, ◌%◌, ◌^◌, ◌≤◌, ◌⊎◌, inl, inr, max, List, [], ◌∷◌, Bool, true, false, not, Option, Some, None, Result, Ok, Err, map, arith}
-use Rattle.std.specs.Prelude.{Contains, slice_get}
+use Rattle.std.proofs.Common.{◌≡◌, ◌∙◌, refl, sym, ap, subst, ℕ, ◌+◌, ◌*◌, ◌%◌, ◌^◌, ◌≤◌, ◌⊎◌, inl, inr, max, List, [], ◌∷◌, Bool, true, false, not, Option, Some, None, Result, map, arith}
+use Rattle.std.specs.Prelude.{slice_get}
 use Rattle.std.specs.declared.alloc.AllocError.{AllocError}
 use Rattle.codec_payload_base.specs.declared.wire.Ticks.{Ticks}
-use Rattle.codec_payload_buffer.proofs.MemberLemmas.{IsIn, contains_in}
 use Rattle.codec_payload_buffer.specs.Held.{Held, has_number}
 use Rattle.codec_payload_buffer.specs.Steps.{State, is_dropped}
 use Rattle.codec_payload_buffer.specs.Stretches.{after_pushes}
@@ -41,7 +40,7 @@ use Rattle.codec_payload_receiver.specs.Pops.{answer_of}
 use Rattle.codec_payload_receiver.specs.declared.pops.Popped.{Popped}
 use Rattle.codec_payload_receiver.specs.declared.receiver.ReceiveError.{ReceiveError}
 use Rattle.codec_payload_session_stream.specs.Streams.{is_no_memory}
-use Rattle.codec_payload_session_runs.specs.Lives.{ReceiverCall, RunsAlone, finishes, follows, pairs, pops, receives, reports, waits, with_shown}
+use Rattle.codec_payload_session_runs.specs.Lives.{ReceiverCall, finishes, follows, pairs, pops, receives, reports, waits, with_shown}
 use Rattle.codec_payload_session_units.specs.OneSender.{answers_by, effective, steps_by}
 use Rattle.codec_payload_session_units.specs.RedStreamLogs.{IsLogInRed}
 use Rattle.codec_payload_session_units.proofs.RedCalls.{IsGoingInRed, Taken, going_ended, going_follows, going_lost, going_pairs, going_popped, going_received, going_reports, going_waits}

@@ -1,8 +1,7 @@
 -- The units of a stream in RED are its sender's.
-use Rattle.std.proofs.Common.{◌≡◌, ◌≢◌, ◌∙◌, refl, sym, ap, subst, ℕ, ◌+◌, ◌*◌, ◌%◌, ◌^◌, ◌<◌, ◌≤◌, List, [], ◌∷◌, ◌++◌, map, Bool, true, false, not, eqb, inl, inr, Option, None, Some, Result, Ok, Err, length, arith, lit≤}
+use Rattle.std.proofs.Common.{◌≡◌, ◌∙◌, refl, sym, ap, subst, ℕ, ◌+◌, ◌%◌, ◌<◌, ◌≤◌, List, [], ◌∷◌, Bool, true, false, not, eqb, inl, inr, Option, None, Some, Result, Ok, length, arith, lit≤}
 use Rattle.std.specs.Prelude.{slice_get}
 use Rattle.std.proofs.lemmas.Bool.{eq-eqb}
-use Rattle.std.proofs.lemmas.Option.{slice_get_within}
 use Rattle.codec_payload_base.specs.declared.wire.Ticks.{Ticks}
 use Rattle.codec_payload_buffer.proofs.MemberLemmas.{IsIn, contains_in, in_contains}
 use Rattle.codec_payload_buffer.specs.Held.{Held, has_number}
@@ -43,7 +42,6 @@ use Rattle.codec_payload_datagram_runs.proofs.RedPushLemmas.{AreBrought, brought
 use Rattle.codec_payload_datagram_runs.proofs.LogLemmas.{Chained, all_follow, none_is_lost, none_passed, stretches}
 use Rattle.codec_payload_datagram_runs.specs.Releases.{AreDatagrams, AreOfOneStream, ComeWithin, is_sent_again_by, sending_steps, times_sent}
 use Rattle.codec_payload_datagram_runs.specs.declared.run.DatagramStep.{DatagramStep}
-use Rattle.codec_payload_datagram_runs.specs.declared.run.DatagramStep.TheVariants as steps
 use Rattle.codec_payload_keyframes.specs.UnitGates.{drops_units}
 use Rattle.codec_payload_numbers.specs.NotedTimes.{AreTimesOf}
 use Rattle.codec_payload_numbers.specs.Numbers.{Numbering}
@@ -61,12 +59,12 @@ use Rattle.codec_payload_session_formats.specs.declared.formats.SessionSettings.
 use Rattle.codec_payload_session_stream.specs.Streams.{Begins}
 use Rattle.codec_payload_session_stream.specs.declared.stream.StreamState.{StreamState}
 use Rattle.codec_payload_session_runs.proofs.ReachedLemmas.{runs_split}
-use Rattle.codec_payload_session_runs.specs.Lives.{IsAlone, ReceiverCall, RunsAlone, events_of, finishes, follows, pairs, pops, receives, reports, shown, shown_of, waits, waits_for, with_shown}
+use Rattle.codec_payload_session_runs.specs.Lives.{IsAlone, ReceiverCall, RunsAlone, events_of, finishes, follows, pairs, pops, receives, reports, shown, waits, waits_for, with_shown}
 use Rattle.codec_payload_session_runs.specs.SessionRuns.{Call, Runs}
 use Rattle.codec_payload_session_stream.specs.Streams.{is_no_memory}
 use Rattle.codec_payload_jitter.specs.declared.outcome.Outcome.{Outcome}
 use Rattle.codec_payload_receiver.specs.declared.receiver.ReceiveError.{ReceiveError}
-use Rattle.codec_payload_session_units.specs.OneRedSender.{FoundBlocks, IsGivenInRed, IsOneRedSenders, IsRedSenderFor, RedStreamsReleaseUnits, ReleasesUnitsInRed}
+use Rattle.codec_payload_session_units.specs.OneRedSender.{FoundBlocks, IsGivenInRed, IsOneRedSenders, RedStreamsReleaseUnits, ReleasesUnitsInRed}
 use Rattle.codec_payload_session_units.specs.RedStreamLogs.{KeepsRedPromises, PushesWhole, RedStreamLog, RedStreamsKeepPromises, backward_of}
 use Rattle.codec_payload_session_units.specs.OneSender.{FoundMemory, answers_by, effective, sends_of, steps_by}
 use Rattle.codec_payload_session_units.specs.StreamUnits.{answered, units_told}

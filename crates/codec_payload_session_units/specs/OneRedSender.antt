@@ -1,6 +1,6 @@
 -- What a run gave to a stream of a session in RED (RFC 2198), if all of it is one sender's, and the units that events have of the stream.
 -- A packet arrives with its own datagram, or as a block of a later one.
-use Rattle.std.specs.Prelude.{◌≡◌, ◌≢◌, ◌⊎◌, ℕ, ◌%◌, ◌<◌, ◌^◌, Bool, true, false, List, [], ◌∷◌, Option, Some, None, Err, length, map}
+use Rattle.std.specs.Prelude.{◌≡◌, ◌≢◌, ◌⊎◌, ℕ, ◌%◌, ◌<◌, ◌^◌, Bool, true, false, List, [], ◌∷◌, Some, None, Err, length, map}
 use Rattle.codec_payload_buffer_runs.specs.Headline.{InOrder}
 use Rattle.codec_payload_buffer_runs.specs.Schedule.{Answer}
 use Rattle.codec_payload_buffer_runs.specs.SentStream.{AllEndWithTail, AreReadable, SentUnit, packets_of, units_of_run}
