@@ -1,15 +1,13 @@
 -- What a receiver answers for units above its bound, and how it counts them.
 use Rattle.std.specs.declared.alloc.AllocError.{AllocError}
-use Rattle.std.proofs.Common.{◌≡◌, ◌∙◌, refl, sym, ap, subst, ℕ, zero, suc, ◌+◌, ◌%◌, ◌^◌, ◌<◌, ◌≤◌, ◌||◌, Bool, true, false, cond, ltb, List, [], ◌∷◌, ◌++◌, append-nil, append_assoc, inl, inr, Option, Some, None, Result, Ok, Err, MatchOption, length, map, arith}
+use Rattle.std.proofs.Common.{◌≡◌, ◌∙◌, refl, sym, ap, subst, ℕ, zero, suc, ◌+◌, ◌%◌, ◌^◌, ◌<◌, ◌≤◌, ◌||◌, Bool, true, false, cond, List, [], ◌∷◌, ◌++◌, append-nil, append_assoc, inl, inr, Option, Some, None, Result, Ok, Err, MatchOption, length, map, arith}
 use Rattle.std.proofs.lemmas.Bool.{le-ltb, ltb-false}
 use Rattle.std.proofs.lemmas.List.{length-append}
 use Rattle.std.specs.Prelude.{slice_get}
 use Rattle.codec_payload_base.specs.Pieces.{joined}
-use Rattle.codec_payload_base.specs.declared.error.PacketError.{PacketError}
-use Rattle.codec_payload_base.specs.declared.error.PacketError.TheVariants as faults
 use Rattle.codec_payload_base.specs.declared.wire.Ticks.{Ticks}
-use Rattle.codec_payload_codec.specs.Depacketizers.{DepacketizerState}
-use Rattle.codec_payload_datagrams.specs.Datagrams.{Datagram}
+use Rattle.codec_payload_codec.specs.Packetizers.{may_split}
+use Rattle.codec_payload_datagrams.specs.Kinds.{Datagram}
 use Rattle.codec_payload_jitter.specs.declared.outcome.Outcome.{Outcome}
 use Rattle.codec_payload_metadata.specs.Release.{Release}
 use Rattle.codec_payload_metadata.specs.declared.meta.RtpMeta.{RtpMeta}
@@ -20,8 +18,8 @@ use Rattle.codec_payload_buffer_runs.specs.Headline.{InOrder, IsUnitAt}
 use Rattle.codec_payload_buffer_runs.specs.Schedule.{Answer}
 use Rattle.codec_payload_buffer_runs.specs.SentStream.{IsReleaseOf, SentUnit}
 use Rattle.codec_payload_receiver.specs.Bounds.{is_over, new_bound}
-use Rattle.codec_payload_receiver.specs.Pops.{DropsUnits, NamesFault, PassesOnce, PopsGated, answer_of, bound_if, is_answered, is_large, is_too_large, none_dropped, one_more}
-use Rattle.codec_payload_receiver.specs.Sessions.{ChoosesIf, Ends, Heard, Hears, Keeps, ReceivesBy, ReceivesBytes, Session, SettlesAnew, SettlesOn, first_waiting, is_none_of, opened, opened_if, verdict_in}
+use Rattle.codec_payload_receiver.specs.Pops.{DropsUnits, PopsGated, bound_if, is_large, none_dropped, one_more}
+use Rattle.codec_payload_receiver.specs.Sessions.{ChoosesIf, Ends, Heard, Hears, ReceivesBy, ReceivesBytes, Session, SettlesAnew, SettlesOn, first_waiting, is_none_of, opened, opened_if, verdict_in}
 use Rattle.codec_payload_receiver.specs.declared.bound.UnitBound.{UnitBound}
 use Rattle.codec_payload_datagrams.specs.declared.choice.Candidate.{Candidate}
 use Rattle.codec_payload_datagrams.specs.declared.choice.Verdict.{Verdict}
@@ -30,14 +28,14 @@ use Rattle.codec_payload_receiver.specs.declared.pops.Popped.{Popped}
 use Rattle.codec_payload_receiver.specs.declared.pops.Popped.TheVariants as popped
 use Rattle.codec_payload_receiver.specs.declared.receiver.ReceiveError.{ReceiveError}
 use Rattle.codec_payload_receiver.specs.declared.receiver.ReceiveError.TheVariants as errors
-use Rattle.codec_payload_receiver.specs.declared.receiver.Settings.{Settings}
-use Rattle.codec_payload_sending.specs.Senders.{Sending}
 use Rattle.codec_payload_datagram_runs.proofs.NewReceivers.{new_is_begun}
-use Rattle.codec_payload_datagram_runs.specs.WireRuns.{Delivers, DoesStep, Receipt, Runs, SendsIt, Wire, begins, sent_sample}
+use Rattle.codec_payload_datagram_runs.specs.RedReleases.{IsKnownInRed}
+use Rattle.codec_payload_datagram_runs.specs.Releases.{IsKnownOf}
+use Rattle.codec_payload_datagram_runs.specs.WireRuns.{Delivers, DoesStep, Receipt, Runs, SendsIt, Wire, begins}
 use Rattle.codec_payload_datagram_runs.specs.declared.run.DatagramStep.{DatagramStep}
 use Rattle.codec_payload_datagram_runs.specs.declared.run.DatagramStep.TheVariants as steps
 use Rattle.codec_payload_datagram_runs.specs.declared.run.SentSample.{SentSample}
-use Rattle.codec_payload_timely_runs.specs.LargeUnits.{AreUnits, CallsCountLarge, IsPopOf, LogsTell, NoneAbove, RunsCountLarge, RunsTellUnits, TellsAll, TellsLarge, large_in, one_if, popped_by, told_by}
+use Rattle.codec_payload_timely_runs.specs.LargeUnits.{AreUnits, CallsCountLarge, LogsTell, NoneAbove, RunsCountLarge, RunsTellInRed, RunsTellUnits, SamplesTellUnits, TellsAll, TellsLarge, large_in, one_if, popped_by, told_by}
 
 -- What a pop answered
 
@@ -141,7 +139,7 @@ counts_none s t pops stays = record {
 }
 
 large_append : (most : Option ℕ) (xs ys : List Answer) → large_in most (xs ++ ys) ≡ large_in most xs + large_in most ys
-large_append most [] ys = refl
+large_append most [] ys = omega arith
 large_append most (x ∷ xs) ys = let e : large_in most (xs ++ ys) ≡ large_in most xs + large_in most ys = large_append most xs ys in omega (arith, e)
 
 added : (a m n b c : ℕ) → b % 2 ^ 64 ≡ (a + m) % 2 ^ 64 → c % 2 ^ 64 ≡ (b + n) % 2 ^ 64 → c % 2 ^ 64 ≡ (a + (m + n)) % 2 ^ 64
@@ -276,19 +274,22 @@ tells_all known (u ∷ us) most k (answer ∷ answers) all =
     ap (λ (bytes : List ℕ). cond (is_over most bytes) (popped.TooLarge r) (popped.Unit r)) all.2.bytes in
     (r, told ∙ ap (λ (p : Popped Release). Some (Ok p)) by_bytes, all.2, tells_all known us most (k + length u.packets) answers all.3)
 
+abbrev told : Popped Release → Option (Result (Popped Release) AllocError)
+told p = Some (Ok p)
+
 -- the answer is the one that the log has
+same_release : (r : Release) (most : Option ℕ) (s : Release) (over other : Bool) → is_over most s.bytes ≡ other → told_by most (Some (Ok s)) ≡ told (cond over (popped.TooLarge r) (popped.Unit r)) → s ≡ r
+same_release r most s true true e is = let same : told (popped.TooLarge s) ≡ told (popped.TooLarge r) = sym (told_unit most s true e) ∙ is in cc
+same_release r most s true false e is = let differ : told (popped.Unit s) ≡ told (popped.TooLarge r) = sym (told_unit most s false e) ∙ is in absurd (cc)
+same_release r most s false true e is = let differ : told (popped.TooLarge s) ≡ told (popped.Unit r) = sym (told_unit most s true e) ∙ is in absurd (cc)
+same_release r most s false false e is = let same : told (popped.Unit s) ≡ told (popped.Unit r) = sym (told_unit most s false e) ∙ is in cc
+
 same_unit : (r : Release) (most : Option ℕ) (over : Bool) (answer : Answer) → told_by most answer ≡ Some (Ok (cond over (popped.TooLarge r) (popped.Unit r))) → answer ≡ Some (Ok r)
 same_unit r most true None is = absurd (cc)
 same_unit r most false None is = absurd (cc)
 same_unit r most true (Some (Err fault)) is = absurd (cc)
 same_unit r most false (Some (Err fault)) is = absurd (cc)
-same_unit r most over (Some (Ok s)) is = by over (is_over most s.bytes) refl is
-  where
-    by : (over other : Bool) → is_over most s.bytes ≡ other → told_by most (Some (Ok s)) ≡ Some (Ok (cond over (popped.TooLarge r) (popped.Unit r))) → Some (Ok s) ≡ Some (Ok r)
-    by true true e is = let same : Some (Ok (popped.TooLarge s)) ≡ Some (Ok (popped.TooLarge r)) = sym (told_unit most s true e) ∙ is in cc
-    by true false e is = let other : Some (Ok (popped.Unit s)) ≡ Some (Ok (popped.TooLarge r)) = sym (told_unit most s false e) ∙ is in absurd (cc)
-    by false true e is = let other : Some (Ok (popped.TooLarge s)) ≡ Some (Ok (popped.Unit r)) = sym (told_unit most s true e) ∙ is in absurd (cc)
-    by false false e is = let same : Some (Ok (popped.Unit s)) ≡ Some (Ok (popped.Unit r)) = sym (told_unit most s false e) ∙ is in cc
+same_unit r most over (Some (Ok s)) is = ap (λ (x : Release). Some (Ok x)) (same_release r most s over (is_over most s.bytes) refl is)
 
 answers_all : (known : ℕ → Packet → RtpMeta → Type 0) (units : List SentUnit) (most : Option ℕ) (k : ℕ) (answers : List Answer) → TellsAll known most k units answers → AnswersAll known k units answers
 answers_all known units most k [] all = tt
@@ -296,24 +297,16 @@ answers_all known [] most k (answer ∷ answers) all = (all.0, answers_all known
 answers_all known (u ∷ us) most k (answer ∷ answers) all =
     (all.0, same_unit all.0 most (is_over most (joined u.parts)) answer all.1, all.2, answers_all known us most (k + length u.packets) answers all.3)
 
-none_then : (most : Option ℕ) (answers : List Answer) (known : ℕ → Packet → RtpMeta → Type 0) (k : ℕ) → TellsAll known most k [] answers → AreUnits most answers
-none_then most [] known k all = tt
-none_then most (answer ∷ answers) known k all = subst (λ (a : Answer). AreUnits most (a ∷ answers)) (sym all.0) (none_then most answers known k all.1)
-
-units_all : (known : ℕ → Packet → RtpMeta → Type 0) (units : List SentUnit) (most : Option ℕ) (k : ℕ) (answers : List Answer) → TellsAll known most k units answers
-    → NoneAbove most (map (λ (u : SentUnit). u.parts) units) → AreUnits most answers
-units_all known units most k [] all none = tt
-units_all known [] most k (answer ∷ answers) all none = none_then most (answer ∷ answers) known k all
-units_all known (u ∷ us) most k (answer ∷ answers) all none =
-    let r : Release = all.0 in
-    let is : answer ≡ Some (Ok r) = same_unit r most (is_over most (joined u.parts)) answer all.1 in
-    let told : told_by most answer ≡ Some (Ok (popped.Unit r)) = subst (λ (b : Bool). told_by most answer ≡ Some (Ok (cond b (popped.TooLarge r) (popped.Unit r)))) none.0 all.1 in
-    subst (λ (a : Answer). AreUnits most (a ∷ answers)) (sym is)
-    (subst (λ (a : Answer). told_by most a ≡ Some (Ok (popped.Unit r))) is told, units_all known us most (k + length u.packets) answers all.3 none.1)
-
-pub tells_large : TellsLarge
-tells_large = record { in_order = units_in_order; all = tells_all; same = answers_all; none_above = units_all }
+tells_large : (known : ℕ → Packet → RtpMeta → Type 0) (splits : Bool) (most : Option ℕ) (units : List SentUnit) (answers : List Answer) → InOrder known splits units 0 answers → TellsLarge known most units answers
+tells_large known splits most units answers order =
+    record { none_above = units_in_order known splits units most 0 answers order; all = tells_all known units most 0 answers; same = answers_all known units most 0 answers }
 
 pub runs_tell : RunsTellUnits
-runs_tell samples all_steps s t most released none =
-    units_in_order _ _ released.units most 0 t.pops released.in_order (subst (NoneAbove most) (sym released.canonical) none)
+runs_tell samples all_steps s t most released = tells_large (IsKnownOf samples all_steps s t released.units) (may_split s.sending.packetizer) most released.units t.pops released.in_order
+
+pub runs_tell_in_red : RunsTellInRed
+runs_tell_in_red samples all_steps s t most released =
+    tells_large (IsKnownInRed samples all_steps s t) (may_split s.wire.sending.packetizer) most released.units t.wire.pops released.in_order
+
+pub samples_tell : SamplesTellUnits
+samples_tell samples all_steps s t most released none = (runs_tell samples all_steps s t most released).none_above (subst (NoneAbove most) (sym released.canonical) none)

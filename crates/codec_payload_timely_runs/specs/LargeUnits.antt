@@ -12,7 +12,6 @@ use Rattle.codec_payload_metadata.specs.declared.meta.RtpMeta.{RtpMeta}
 use Rattle.codec_payload_payloader.specs.Packets.{Packet}
 use Rattle.codec_payload_payloader.specs.Sending.{Sample}
 use Rattle.codec_payload_buffer_runs.specs.Exact.{AnswersAll, IsWhole}
-use Rattle.codec_payload_buffer_runs.specs.Headline.{InOrder}
 use Rattle.codec_payload_buffer_runs.specs.Schedule.{Answer}
 use Rattle.codec_payload_buffer_runs.specs.SentStream.{SentUnit, units_of_run}
 use Rattle.codec_payload_receiver.specs.Bounds.{is_over}
@@ -23,7 +22,9 @@ use Rattle.codec_payload_receiver.specs.declared.pops.Popped.TheVariants as popp
 use Rattle.codec_payload_receiver.specs.declared.receiver.ReceiveError.{ReceiveError}
 use Rattle.codec_payload_receiver.specs.declared.receiver.Settings.{Settings}
 use Rattle.codec_payload_sending.specs.Senders.{Sending}
-use Rattle.codec_payload_datagram_runs.specs.Releases.{ReleasesUnits, sending_steps}
+use Rattle.codec_payload_datagram_runs.specs.RedReleases.{IsKnownInRed, ReleasesUnitsInRed}
+use Rattle.codec_payload_datagram_runs.specs.RedRuns.{RedWire}
+use Rattle.codec_payload_datagram_runs.specs.Releases.{IsKnownOf, ReleasesUnits, sending_steps}
 use Rattle.codec_payload_datagram_runs.specs.WireRuns.{Runs, Wire, begins}
 use Rattle.codec_payload_datagram_runs.specs.declared.run.DatagramStep.{DatagramStep}
 
@@ -96,20 +97,27 @@ TellsAll known most k (u ∷ us) (answer ∷ answers) =
     (r : Release) × (told_by most answer ≡ Some (Ok (if is_over most (joined u.parts) then popped.TooLarge r else popped.Unit r))) × IsWhole known k u r
     × TellsAll known most (k + length u.packets) us answers
 
--- Of any run whose pops release units in order: if no unit that was sent is above the bound, each unit that is popped is answered as a
--- unit. If all units are popped, exactly those above the bound are answered as too large
-pub record TellsLarge : Type 0 where
-  pub in_order : (known : ℕ → Packet → RtpMeta → Type 0) (splits : Bool) (units : List SentUnit) (most : Option ℕ) (from : ℕ) (answers : List Answer)
-      → InOrder known splits units from answers → NoneAbove most (map (λ (u : SentUnit). u.parts) units) → AreUnits most answers
-  pub all : (known : ℕ → Packet → RtpMeta → Type 0) (units : List SentUnit) (most : Option ℕ) (k : ℕ) (answers : List Answer)
-      → AnswersAll known k units answers → TellsAll known most k units answers
-  pub same : (known : ℕ → Packet → RtpMeta → Type 0) (units : List SentUnit) (most : Option ℕ) (k : ℕ) (answers : List Answer)
-      → TellsAll known most k units answers → AnswersAll known k units answers
-  pub none_above : (known : ℕ → Packet → RtpMeta → Type 0) (units : List SentUnit) (most : Option ℕ) (k : ℕ) (answers : List Answer)
-      → TellsAll known most k units answers → NoneAbove most (map (λ (u : SentUnit). u.parts) units) → AreUnits most answers
+-- Of a run whose pops release these units: if none of them is above the bound, each unit that is popped is answered as a unit. If all are
+-- popped, exactly those above the bound are answered as too large
+pub record TellsLarge (known : ℕ → Packet → RtpMeta → Type 0) (most : Option ℕ) (units : List SentUnit) (answers : List Answer) : Type 0 where
+  pub none_above : NoneAbove most (map (λ (u : SentUnit). u.parts) units) → AreUnits most answers
+  pub all : AnswersAll known 0 units answers → TellsAll known most 0 units answers
+  pub same : TellsAll known most 0 units answers → AnswersAll known 0 units answers
 
--- for a run over datagrams: by the samples that it sends
+-- for what runs over datagrams release, also those with retransmissions, each part of one with restarts, and those of a viewer
 abbrev pub RunsTellUnits : Type 0
 RunsTellUnits =
+    (samples : List Sample) (all_steps : List DatagramStep) (s t : Wire) (most : Option ℕ) (released : ReleasesUnits samples all_steps s t)
+    → TellsLarge (IsKnownOf samples all_steps s t released.units) most released.units t.pops
+
+-- for what runs in RED release
+abbrev pub RunsTellInRed : Type 0
+RunsTellInRed =
+    (samples : List Sample) (all_steps : List DatagramStep) (s t : RedWire) (most : Option ℕ) (released : ReleasesUnitsInRed samples all_steps s t)
+    → TellsLarge (IsKnownInRed samples all_steps s t) most released.units t.wire.pops
+
+-- the units of a run over datagrams are those of the samples that it sends
+abbrev pub SamplesTellUnits : Type 0
+SamplesTellUnits =
     (samples : List Sample) (all_steps : List DatagramStep) (s t : Wire) (most : Option ℕ) → ReleasesUnits samples all_steps s t
     → NoneAbove most (units_of_run s.sending.packetizer samples (sending_steps s.sending.mtu all_steps)) → AreUnits most t.pops

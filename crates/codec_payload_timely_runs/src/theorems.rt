@@ -1,6 +1,6 @@
 //! Theorems on the times at which units come, and on units above `max_unit`. These functions exist for their proofs and do nothing.
 
-ghost use Rattle.codec_payload_timely_runs.specs.LargeUnits.{CallsCountLarge, LogsTell, RunsCountLarge, RunsTellUnits, TellsLarge};
+ghost use Rattle.codec_payload_timely_runs.specs.LargeUnits.{CallsCountLarge, LogsTell, RunsCountLarge, RunsTellInRed, RunsTellUnits, SamplesTellUnits};
 ghost use Rattle.codec_payload_timely_runs.specs.Overdue.{PopsLeaveNoneOverdue};
 ghost use Rattle.codec_payload_timely_runs.specs.RedTimes.{TimesInRed, TimesInRedWithHistory};
 ghost use Rattle.codec_payload_timely_runs.specs.TimelyRunExample.{TimesCanBeMet};
@@ -52,9 +52,10 @@ pub fn large_units_are_counted()
 {}
 
 /// If no unit that was sent is above `max_unit`, each unit that a pop returns is `Popped::Unit`. If all units are popped, exactly those
-/// above `max_unit` are `Popped::TooLarge`. This applies to each run whose pops release units in order: over datagrams, with
-/// retransmissions, in RED, with restarts, behind a forwarder or a media server.
+/// above `max_unit` are `Popped::TooLarge`. This applies to what runs over datagrams release, also with retransmissions, to each part of
+/// a run with restarts and to the receiver of a viewer, and to runs in RED. The units are those of the samples (`samples`).
 pub fn large_units_are_told()
-    ensures units { TellsLarge }
     ensures runs { RunsTellUnits }
+    ensures in_red { RunsTellInRed }
+    ensures samples { SamplesTellUnits }
 {}
