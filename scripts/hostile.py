@@ -156,6 +156,15 @@ impl Session {
         let told = self.receive_plain(now, &malformed);
         if crate::hostile::answers() { answer } else { told }
     }
+
+    /// The same with the time of arrival.
+    pub fn receive_at(&mut self, now: Ticks, micros: u64, datagram: &[u8]) -> Result<Arrival, AllocError> {
+        let answer = self.receive_at_plain(now, micros, datagram);
+        if let Some(malformed) = crate::hostile::instead(datagram, None) {
+            self.receive_at_plain(now, micros, &malformed)?;
+        }
+        answer
+    }
 }
 
 impl Drop for Session {
@@ -328,7 +337,8 @@ def hostile_crate(folder):
                                                             ("    buffer: DepacketizingBuffer<B>,\n",
                                                              "    pub(crate) buffer: DepacketizingBuffer<B>,\n")])
     changed(f"{crate}/src/buffer.rs", [("    depacketizer: CodecDepacketizer<B>,\n", "    pub(crate) depacketizer: CodecDepacketizer<B>,\n")])
-    changed(f"{crate}/src/session/sessions.rs", [("pub fn receive(", "pub(crate) fn receive_plain(")], SESSION)
+    changed(f"{crate}/src/session/sessions.rs", [("pub fn receive(", "pub(crate) fn receive_plain("),
+                                                     ("pub fn receive_at(", "pub(crate) fn receive_at_plain(")], SESSION)
     return crate
 
 
