@@ -35,7 +35,7 @@ use Rattle.codec_payload_datagram_runs.specs.WireRuns.{Delivers, DoesStep, Recei
 use Rattle.codec_payload_datagram_runs.specs.declared.run.DatagramStep.{DatagramStep}
 use Rattle.codec_payload_datagram_runs.specs.declared.run.DatagramStep.TheVariants as steps
 use Rattle.codec_payload_datagram_runs.specs.declared.run.SentSample.{SentSample}
-use Rattle.codec_payload_timely_runs.specs.LargeUnits.{AreUnits, CallsCountLarge, LogsTell, NoneAbove, RunsCountLarge, RunsTellInRed, RunsTellUnits, SamplesTellUnits, TellsAll, TellsLarge, large_in, one_if, popped_by, told_by}
+use Rattle.codec_payload_timely_runs.specs.LargeUnits.{AreUnits, CallsCountLarge, LogsTell, NoneAbove, RunsCountLarge, RunsTellInRed, RunsTellUnits, SamplesTellUnits, TellsAll, ShowsLarge, large_in, one_if, popped_by, told_by}
 
 -- What a pop answered
 
@@ -297,7 +297,7 @@ answers_all known [] most k (answer ∷ answers) all = (all.0, answers_all known
 answers_all known (u ∷ us) most k (answer ∷ answers) all =
     (all.0, same_unit all.0 most (is_over most (joined u.parts)) answer all.1, all.2, answers_all known us most (k + length u.packets) answers all.3)
 
-tells_large : (known : ℕ → Packet → RtpMeta → Type 0) (splits : Bool) (most : Option ℕ) (units : List SentUnit) (answers : List Answer) → InOrder known splits units 0 answers → TellsLarge known most units answers
+tells_large : (known : ℕ → Packet → RtpMeta → Type 0) (splits : Bool) (most : Option ℕ) (units : List SentUnit) (answers : List Answer) → InOrder known splits units 0 answers → ShowsLarge known most units answers
 tells_large known splits most units answers order =
     record { none_above = units_in_order known splits units most 0 answers order; all = tells_all known units most 0 answers; same = answers_all known units most 0 answers }
 

@@ -99,7 +99,7 @@ TellsAll known most k (u ∷ us) (answer ∷ answers) =
 
 -- Of a run whose pops release these units: if none of them is above the bound, each unit that is popped is answered as a unit. If all are
 -- popped, exactly those above the bound are answered as too large
-pub record TellsLarge (known : ℕ → Packet → RtpMeta → Type 0) (most : Option ℕ) (units : List SentUnit) (answers : List Answer) : Type 0 where
+pub record ShowsLarge (known : ℕ → Packet → RtpMeta → Type 0) (most : Option ℕ) (units : List SentUnit) (answers : List Answer) : Type 0 where
   pub none_above : NoneAbove most (map (λ (u : SentUnit). u.parts) units) → AreUnits most answers
   pub all : AnswersAll known 0 units answers → TellsAll known most 0 units answers
   pub same : TellsAll known most 0 units answers → AnswersAll known 0 units answers
@@ -108,13 +108,13 @@ pub record TellsLarge (known : ℕ → Packet → RtpMeta → Type 0) (most : Op
 abbrev pub RunsTellUnits : Type 0
 RunsTellUnits =
     (samples : List Sample) (all_steps : List DatagramStep) (s t : Wire) (most : Option ℕ) (released : ReleasesUnits samples all_steps s t)
-    → TellsLarge (IsKnownOf samples all_steps s t released.units) most released.units t.pops
+    → ShowsLarge (IsKnownOf samples all_steps s t released.units) most released.units t.pops
 
 -- for what runs in RED release
 abbrev pub RunsTellInRed : Type 0
 RunsTellInRed =
     (samples : List Sample) (all_steps : List DatagramStep) (s t : RedWire) (most : Option ℕ) (released : ReleasesUnitsInRed samples all_steps s t)
-    → TellsLarge (IsKnownInRed samples all_steps s t) most released.units t.wire.pops
+    → ShowsLarge (IsKnownInRed samples all_steps s t) most released.units t.wire.pops
 
 -- the units of a run over datagrams are those of the samples that it sends
 abbrev pub SamplesTellUnits : Type 0

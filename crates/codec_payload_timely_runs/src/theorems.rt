@@ -40,7 +40,7 @@ pub fn pops_leave_none_overdue()
 
 /// The log of a run says what each pop answered: a unit with more bytes than the receiver's bound as `Popped::TooLarge`, any other one
 /// as `Popped::Unit`. The log has both as units.
-pub fn logs_tell_large_units()
+pub fn logs_show_large_units()
     ensures { LogsTell }
 {}
 
@@ -54,7 +54,7 @@ pub fn large_units_are_counted()
 /// If no unit that was sent is above `max_unit`, each unit that a pop returns is `Popped::Unit`. If all units are popped, exactly those
 /// above `max_unit` are `Popped::TooLarge`. This applies to what runs over datagrams release, also with retransmissions, to each part of
 /// a run with restarts and to the receiver of a viewer, and to runs in RED. The units are those of the samples (`samples`).
-pub fn large_units_are_told()
+pub fn large_units_are_reported()
     ensures runs { RunsTellUnits }
     ensures in_red { RunsTellInRed }
     ensures samples { SamplesTellUnits }
