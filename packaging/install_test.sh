@@ -31,9 +31,9 @@ done
 
 # exports NM-FLAGS FILE: the names that a library exports, which must be the names of the header
 exports() {
-    sed -n 's/^[A-Za-z0-9_ ]*[ *]\(cpay_[a-z0-9_]*\)(.*/\1/p' "$root/include/codec_payload.h" \
+    sed -n '/^static inline /!s/^[A-Za-z0-9_ ]*[ *]\(cpay_[a-z0-9_]*\)(.*/\1/p' "$root/include/codec_payload.h" \
         "$root/include/codec_payload_media.h" "$root/include/codec_payload_sdp.h" "$root/include/codec_payload_bindings.h" |
-        grep -v -x -e cpay_status_text -e cpay_ending_text -e cpay_settings_fault_text -e cpay_sdp_error_text -e cpay_sdp_session_error_text | sort -u >"$work/wanted"
+        sort -u >"$work/wanted"
     nm --defined-only --extern-only $1 "$2" | sed -n 's/.* [A-Z] \([^@]*\).*/\1/p' | grep -v -x CODEC_PAYLOAD_0 |
         sort -u >"$work/found"
     cmp -s "$work/wanted" "$work/found" || {
