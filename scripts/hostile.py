@@ -157,7 +157,7 @@ impl Session {
         if crate::hostile::answers() { answer } else { told }
     }
 
-    /// The same with the time of arrival.
+    /// The same with the time of arrival, without refused frames.
     pub fn receive_at(&mut self, now: Ticks, micros: u64, datagram: &[u8]) -> Result<Arrival, AllocError> {
         let answer = self.receive_at_plain(now, micros, datagram);
         if let Some(malformed) = crate::hostile::instead(datagram, None) {

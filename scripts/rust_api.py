@@ -137,13 +137,15 @@ def documented():
 
 def is_shown(line, names):
     """Whether a line of `items` is of an item that the documentation shows."""
-    module, _, rest = line.rpartition(": pub ") if ": impl" not in line else line.partition(": impl")
     if line.startswith("sdp"):
         return True
     if ": impl" in line:
-        head = re.sub(r"<[^<>]*(?:<[^<>]*>[^<>]*)*>", "", rest.split(": pub ")[0].split(" where ")[0])
-        return bool(set(re.findall(r"\w+", head.split(" for ")[-1])) & names)
-    owner = re.match(r"(?:[\w:]+: )?(\w+): ", line) if not re.match(r"(?:[\w:]+: )?pub ", line) else re.search(r"(?:fn|struct|enum|trait|const|static|type|union) (\w+)", line)
+        head = line.partition(": impl")[2].split(": pub ")[0].split(" where ")[0]
+        type_name = re.sub(r"<[^<>]*(?:<[^<>]*>[^<>]*)*>", "", head).split(" for ")[-1]
+        return bool(set(re.findall(r"\w+", type_name)) & names)
+    item = re.match(r"(?:[\w:]+: )?pub .*?(?:fn|struct|enum|trait|const|static|type|union) (\w+)", line)
+    part = re.match(r"(?:[\w:]+: )?(\w+): ", line)
+    owner = item or part
     return bool(owner) and owner[1] in names
 
 

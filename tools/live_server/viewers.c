@@ -4,7 +4,6 @@
 #include <libavutil/intreadwrite.h>
 #include <stdlib.h>
 #include <string.h>
-#include <sys/param.h>
 
 enum {
     REPORT_INTERVAL = 1000, /* ms between two sender reports */
