@@ -15,7 +15,8 @@
 # - The package builds by itself, with each test and example in it, and each example ends well; docs/use/LIMITS.md and
 #   docs/use/FEEDBACK.md have the tables that examples print.
 # - No pop of a buffer takes more than 2 microseconds if packets that are no frame lie before the next frame (tools/speed).
-# - With valgrind: no datagram of a peer that chooses its numbers takes more instructions than its bound (tools/measure/rust_speed.py).
+# - With valgrind: no datagram of a peer that chooses its numbers takes more instructions than its bound, and no packet for a viewer
+#   (tools/measure/rust_speed.py).
 # - The programs over lines, tools/lines: rustfmt and clippy have nothing to say, and each test vector gets its answer
 #   (tests/vectors/process.py). In rust-c rustfmt and clippy have nothing to say.
 # - With clang's libFuzzer: two seconds of each fuzz target (tools/fuzz/fuzz.sh). With Debian's packages of crates: rust-extras/test.sh.
@@ -85,10 +86,11 @@ packaged() {
     done
 }
 
-# What hostile packets cost.
+# What hostile packets cost, and packets for a viewer.
 speed() {
     step cargo build --quiet --release --manifest-path "$root/tools/speed/Cargo.toml"
     ! command -v valgrind >/dev/null || step "$root/tools/measure/rust_speed.py" --hostile
+    ! command -v valgrind >/dev/null || step "$root/tools/measure/rust_speed.py" --forward
 }
 
 # The programs over lines, and the calls of C over the crate, whose tests scripts/targets.sh runs.

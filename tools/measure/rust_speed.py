@@ -7,12 +7,13 @@
   tools/measure/rust_speed.py [--fallible] --buffer
   tools/measure/rust_speed.py [--fallible] --receiver
   tools/measure/rust_speed.py [--fallible] --hostile
+  tools/measure/rust_speed.py [--fallible] --forward
 
 With --buffer it prints the instructions of a push and a pop (tools/speed/src/bin/buffer.rs), with --receiver those of a datagram in a
 receiver. With --sessions it prints what a datagram takes in a session beside a receiver alone (tools/speed/src/bin/session.rs). With
 --orders it prints times of packets in orders of arrival, and the memory of held packets (tools/speed/src/bin/orders.rs). With
---hostile it prints what a datagram takes where the peer chooses the numbers (tools/speed/src/bin/hostile.rs), and fails if a row is
-above its bound.
+--hostile it prints what a datagram takes where the peer chooses the numbers (tools/speed/src/bin/hostile.rs), with --forward what a
+packet takes for a viewer (tools/speed/src/bin/forward.rs). Both fail if a row is above its bound.
 Needs cargo, and valgrind for instructions. Times depend on the machine and on what else runs on it; instructions do not.
 """
 import os
@@ -55,6 +56,15 @@ CHOSEN = {
     ("goodbyes", 11): ("RTCP: BYE of 341 SSRCs", 15_500),
     ("numbered", 4_000): ("a packet with a transport-wide number, behind 4,000 of them", 4_050),
     ("strays", 1_000): ("a packet of a new SSRC, all 64 places taken by senders of one packet", 38_000),
+}
+# The kinds of tools/speed/src/bin/forward.rs, each with the viewers of a counted packet, and its largest number of instructions.
+FORWARDED = {
+    ("write", 0): ("the next packet, 1,100 bytes", 32, 450),
+    ("late", 0): ("a late packet", 1, 550),
+    ("late", 4_096): ("a late packet, 4,096 left out after it", 1, 800),
+    ("again", 0): ("a request", 1, 600),
+    ("again", 4_096): ("a request for a number behind 4,096 that were left out", 1, 1_050),
+    ("leave", 4_096): ("the next packet is left out, 4,096 left out before", 1, 300),
 }
 HOSTILE = {"goodbyes": "300 BYEs of nobody, 1,200 bytes", "strays": "a packet of a new SSRC, all places taken"}
 
@@ -103,17 +113,31 @@ def of_hostile(kind, size, counts=(40, 80)):
     return (many - few) / (counts[1] - counts[0])
 
 
-def print_hostile():
+def of_forwarded(kind, left, counts=(40, 80)):
+    viewers = FORWARDED[kind, left][1]
+    few, many = (collected(f"{SPEED}/target/release/forward", kind, left, count, within=f"forward::{kind}") for count in counts)
+    return (many - few) / (counts[1] - counts[0]) / viewers
+
+
+def print_bounded(title, rows, of_row):
     """Prints a table, and returns whether each row is within its bound."""
-    print("| a datagram of a session that requests what it misses | instructions | bound |")
+    print(f"| {title} | instructions | bound |")
     print("|---" * 3 + "|")
     within = True
     with ThreadPoolExecutor(os.cpu_count()) as pool:
-        for (name, bound), taken in zip(CHOSEN.values(), pool.map(lambda it: of_hostile(*it), CHOSEN)):
+        for (name, *_, bound), taken in zip(rows.values(), pool.map(lambda it: of_row(*it), rows)):
             within = within and taken <= bound
             print(f"| {name} | {taken:,.0f} | {bound:,} |", flush=True)
     print(f"rust_speed: {'each row is' if within else 'not each row is'} within its bound")
     return within
+
+
+def print_hostile():
+    return print_bounded("a datagram of a session that requests what it misses", CHOSEN, of_hostile)
+
+
+def print_forwarded():
+    return print_bounded("a packet of VP8 for a viewer", FORWARDED, of_forwarded)
 
 
 def of_packet(way, order, held, counts=(6_528, 13_056)):
@@ -162,6 +186,8 @@ def main(words):
     subprocess.run(["cargo", "build", "--offline", "--quiet", "--release", *features], cwd=SPEED, check=True)
     if "--hostile" in words:
         return 0 if print_hostile() else 1
+    if "--forward" in words:
+        return 0 if print_forwarded() else 1
     if "--receiver" in words:
         print_receiver(features)
         return 0

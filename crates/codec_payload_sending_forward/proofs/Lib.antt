@@ -3,8 +3,10 @@ pub mod IdRunLemmas
 pub mod MapLemmas
 pub mod NumberLemmas
 pub mod NumberRunLemmas
+pub mod PatchLemmas
 pub mod RepeatLemmas
 pub mod RequestLemmas
+pub mod SearchLemmas
 pub mod SizeLemmas
 pub mod TimeLemmas
 pub mod Vp9Lemmas

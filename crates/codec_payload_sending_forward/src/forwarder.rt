@@ -11,9 +11,11 @@ ghost use Rattle.codec_payload_rtp.specs.RtpReading.{rtp_at};
 ghost use Rattle.codec_payload_rtp.specs.RtpValues.{header_of, packet_of};
 ghost use Rattle.codec_payload_sending_forward.specs.declared.renumbering.Placed.TheVariants as places;
 ghost use Rattle.codec_payload_sending_forward.specs.Numbers.{after_packet, placed};
-ghost use Rattle.codec_payload_sending_forward.specs.Forwarding.{IsNotRequested, IsNumberOf, IsRequested, IsResent, IsWritten, Forwards, Leaves, Repeats, after_written, codec_fits, forward_by, is_source, next_packet, number_in, offsets_for, packet_under, sent_packet, size_again, forwarded_size, ticks_between, time_for, wrapped};
+ghost use Rattle.codec_payload_sending_forward.specs.Times.{time_as};
+ghost use Rattle.codec_payload_sending_forward.specs.Vp8Numbers.{payload_as, vp8_ids};
+ghost use Rattle.codec_payload_sending_forward.specs.Forwarding.{IsNotRequested, IsNumberOf, IsRequested, IsResent, IsWritten, Forwards, Leaves, Repeats, after_written, codec_fits, forward_by, ids_in, is_source, next_packet, number_in, offsets_for, packet_under, sent_packet, size_again, forwarded_size, ticks_between, time_for, wrapped};
 
-use crate::ids::{ForwardedIds, IdOffsets};
+use crate::ids::{ForwardedIds, IdOffsets, PayloadIds};
 use crate::payloads::{closing_id, ids_in, rewrite};
 use crate::renumbering::{Placed, Renumbering};
 use crate::times::Retiming;
@@ -103,7 +105,7 @@ pub struct Forwarder {
     written_at: Option<u64>,
     /// The highest number of the source that was sent. Packets above it may have been left out.
     latest: u64,
-    /// Memory for the payload of a packet of VP8 or VP9.
+    /// Memory for the payload of a packet of VP9, and of retransmissions of VP8.
     payload: Vec<u8>,
 }
 
@@ -194,6 +196,31 @@ struct Place {
     time: u32,
 }
 
+/// The ids of a payload that was received, and what was added to them.
+#[derive(Clone, Copy, Debug)]
+struct SentIds {
+    offsets: IdOffsets,
+    ids: Option<PayloadIds>,
+}
+
+/// Returns the header of a packet that is sent under this number and time.
+#[inline]
+fn header_under(settings: ForwardSettings, place: Place, marker: bool) -> PacketHeader<'static>
+    requires { settings.payload_type < 128 }
+    ensures value { header_of result ≡ record { marker = marker; payload_type = settings.payload_type; sequence_number = place.number; timestamp = place.time; ssrc = settings.ssrc; csrcs = []; extension = None } }
+    ensures fits { IsTrue (header_fits (header_of result)) }
+{
+    PacketHeader {
+        marker,
+        payload_type: settings.payload_type,
+        sequence_number: place.number,
+        timestamp: place.time,
+        ssrc: settings.ssrc,
+        csrcs: &[],
+        extension: None,
+    }
+}
+
 /// Writes a packet under this number and time, and replaces what `out` has.
 fn write_under(
     settings: ForwardSettings,
@@ -207,21 +234,32 @@ fn write_under(
     ensures err { OnErr result (out.new.items ≡ []) }
 {
     out.clear();
-    let header = PacketHeader {
-        marker: packet.header.marker,
-        payload_type: settings.payload_type,
-        sequence_number: place.number,
-        timestamp: place.time,
-        ssrc: settings.ssrc,
-        csrcs: &[],
-        extension: None,
-    };
     let sent = RtpPacket {
-        header,
+        header: header_under(settings, place, packet.header.marker),
         payload: packet.payload,
         padding: packet.padding,
     };
     sent.write(out)
+}
+
+/// Writes a header and a payload of VP8 with ids by these offsets. `out` is empty before. The payload is copied once, and the ids are
+/// written over those of the copy. Returns the ids of the payload.
+fn write_vp8(
+    header: PacketHeader<'_>,
+    offsets: IdOffsets,
+    payload: &[u8],
+    out: &mut Vec<u8>,
+) -> Result<Option<PayloadIds>, AllocError>
+    requires fits { IsTrue (header_fits (header_of header)) }
+    requires empty { out.old.items ≡ [] }
+    ensures ok { OnOk result (out.new.items ≡ header_bytes false (header_of header.entry) ++ payload_as offsets payload.now) }
+    ensures reads { OnOk result (rtp_at out.new.items ≡ Ok (record { header = header_of header.entry; payload = payload_as offsets payload.now; padding = 0 })) }
+    ensures ids { IfOk result (λ ids. ids ≡ vp8_ids payload.now) }
+{
+    header.write(out)?;
+    let start = out.len();
+    out.extend_from_slice(payload)?;
+    Ok(offsets.write_vp8(payload, &mut out[start..]))
 }
 
 /// Writes a packet with this header, and with a number in front of its payload (RFC 4588, section 4). `out` is empty before.
@@ -318,7 +356,7 @@ impl Forwarder {
     /// - AV1: the first packet of a coded video sequence: N is set, and Z is clear (RTP payload format for AV1, section 4.4).
     /// - Other codecs: any packet.
     ///
-    /// It copies the payload once, a payload of VP8 three times, and one of VP9 twice. Once `out` has grown to the largest packet, it does not allocate.
+    /// It copies the payload once, and a payload of VP9 twice. Once `out` has grown to the largest packet, it does not allocate.
     ///
     /// # Errors
     ///
@@ -362,8 +400,10 @@ impl Forwarder {
         let number = extended(self.numbers.highest(), packet.header.sequence_number);
         match self.numbers.placed(number) {
             Placed::Sent(sent) => {
-                self.write_again_as(sent, packet, out)?;
-                self.record(now, number, packet);
+                let offsets = self.offsets_at(number);
+                let place = self.place_at(sent, packet);
+                let ids = self.write_as(offsets, place, packet, out)?;
+                self.record(now, number, SentIds { offsets, ids }, packet);
                 Ok(Forwarded::Written)
             }
             Placed::LeftOut => Ok(Forwarded::LeftOut),
@@ -371,27 +411,71 @@ impl Forwarder {
         }
     }
 
-    /// Records that a packet was written.
-    fn record(&mut self, now: u64, number: u64, packet: &RtpPacket<'_>)
+    /// Returns the number and the time that a packet is sent with.
+    #[inline]
+    fn place_at(&self, number: u16, packet: &RtpPacket<'_>) -> Place
+        ensures { result ≡ record { number = number; time = time_as self.now.times packet.now.header.timestamp } }
+    {
+        Place {
+            number,
+            time: self.times.sent_as(packet.header.timestamp),
+        }
+    }
+
+    /// Records that a packet with these ids was written.
+    #[inline]
+    fn record(&mut self, now: u64, number: u64, sent: SentIds, packet: &RtpPacket<'_>)
+        requires offsets { sent.offsets ≡ offsets_for self.old.settings.codec self.old.ids number }
+        requires ids { sent.ids ≡ ids_in self.old.settings.codec packet.now.payload.now }
         ensures { self.new ≡ after_written now number (packet_of packet.now) self.old }
     {
         if number > self.numbers.highest() {
             self.written_at = Some(now);
-            let offsets = self.offsets_at(number);
-            let ids = ids_in(self.settings.codec, packet.payload);
-            self.ids.record(offsets, ids);
+            self.ids.record(sent.offsets, sent.ids);
         } else if number > self.latest {
-            let offsets = self.offsets_at(number);
-            let ids = ids_in(self.settings.codec, packet.payload);
-            self.ids.record_late(offsets, ids);
+            self.ids.record_late(sent.offsets, sent.ids);
         }
         self.latest = self.latest.max(number);
         self.numbers.record(number);
         self.times.record(packet.header.timestamp);
     }
 
-    /// Writes a packet with ids by these offsets, under this number and time.
+    /// Writes a packet with ids by these offsets, under this number and time. Returns the ids of the payload received.
     fn write_as(
+        &mut self,
+        offsets: IdOffsets,
+        place: Place,
+        packet: &RtpPacket<'_>,
+        out: &mut Vec<u8>,
+    ) -> Result<Option<PayloadIds>, AllocError>
+        requires empty { out.old.items ≡ [] }
+        ensures ok { OnOk result (IsWritten (sent_packet self.old.settings offsets place.number place.time (packet_of packet.now)) out.new.items) }
+        ensures ids { IfOk result (λ ids. ids ≡ ids_in self.old.settings.codec packet.now.payload.now) }
+        ensures same { self.new ≡ self.old }
+        ensures err { OnErr result (out.new.items ≡ []) }
+    {
+        match self.settings.codec {
+            Codec::Vp8 if packet.padding == 0 => {
+                let header = header_under(self.settings, place, packet.header.marker);
+                let answer = write_vp8(header, offsets, packet.payload, out);
+                if answer.is_err() {
+                    out.clear();
+                }
+                answer
+            }
+            Codec::Vp8 | Codec::Vp9 => {
+                self.write_moved(offsets, place, packet, out)?;
+                Ok(ids_in(self.settings.codec, packet.payload))
+            }
+            _ => {
+                write_under(self.settings, place, packet, out)?;
+                Ok(None)
+            }
+        }
+    }
+
+    /// Writes a packet of VP8 or VP9 with ids by these offsets, under this number and time. The payload is copied twice.
+    fn write_moved(
         &mut self,
         offsets: IdOffsets,
         place: Place,
@@ -403,23 +487,18 @@ impl Forwarder {
         ensures same { self.new ≡ self.old }
         ensures err { OnErr result (out.new.items ≡ []) }
     {
-        match self.settings.codec {
-            Codec::Vp8 | Codec::Vp9 => {
-                rewrite(
-                    self.settings.codec,
-                    offsets,
-                    packet.payload,
-                    &mut self.payload,
-                )?;
-                let rewritten = RtpPacket {
-                    header: packet.header,
-                    payload: &self.payload,
-                    padding: packet.padding,
-                };
-                write_under(self.settings, place, &rewritten, out)
-            }
-            _ => write_under(self.settings, place, packet, out),
-        }
+        rewrite(
+            self.settings.codec,
+            offsets,
+            packet.payload,
+            &mut self.payload,
+        )?;
+        let rewritten = RtpPacket {
+            header: packet.header,
+            payload: &self.payload,
+            padding: packet.padding,
+        };
+        write_under(self.settings, place, &rewritten, out)
     }
 
     /// Returns what is added to the ids in the packet with this number of the source that is forwarded.
@@ -453,8 +532,9 @@ impl Forwarder {
         ensures same { self.new ≡ self.old }
         ensures err { OnErr result (out.new.items ≡ []) }
     {
-        let time = self.times.sent_as(packet.header.timestamp);
-        self.write_as(self.offsets_of(packet), Place { number, time }, packet, out)
+        let place = self.place_at(number, packet);
+        self.write_as(self.offsets_of(packet), place, packet, out)?;
+        Ok(())
     }
 
     /// Goes over to the source of a packet, and writes the packet.

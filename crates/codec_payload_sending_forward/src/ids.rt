@@ -167,8 +167,8 @@ impl ForwardedIds {
         }
     }
 
-    /// Returns what is added to the ids of the source's packet with this number. It costs a step for each remembered picture above
-    /// it.
+    /// Returns what is added to the ids of the source's packet with this number. For a packet that comes late it costs a search by
+    /// halves among the remembered pictures.
     pub fn offsets(&self, number: u64) -> IdOffsets
         ensures { result ≡ offsets_at self.now number }
     {

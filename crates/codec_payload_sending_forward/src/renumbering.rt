@@ -58,41 +58,72 @@ impl Model for Renumbering {
     ghost invariant = { λ r. (r.first ≤ r.highest) × Falls r.left_out.items × AllBelow (suc r.highest) r.left_out.items × (length r.left_out.items ≤ 4096) × (length r.left_out.items ≤ r.highest) };
 }
 
+/// Returns whether none of the numbers is above that one.
+#[inline]
+fn is_above_all(numbers: &VecDeque<u64>, number: u64) -> bool
+    requires { Falls numbers.now.items }
+    ensures { IsTrue result → above number numbers.now.items ≡ 0 }
+{
+    match numbers.front() {
+        None => true,
+        Some(highest) => {
+            if *highest > number {
+                return false;
+            }
+            true
+        }
+    }
+}
+
 /// Returns how many of the numbers are above that one. It is also the place of that one, if it is among them.
 pub(crate) fn count_above(numbers: &VecDeque<u64>, number: u64) -> usize
     requires { Falls numbers.now.items }
     ensures value { result ≡ above number numbers.now.items }
     ensures few { result ≤ length numbers.now.items }
 {
-    for place in 0..numbers.len() {
-        if numbers[place] <= number {
-            return place;
+    // Packets in order are above all numbers.
+    if is_above_all(numbers, number) {
+        return 0;
+    }
+    let mut low = 0;
+    let mut high = numbers.len();
+    while low < high {
+        let middle = low + (high - low) / 2;
+        if numbers[middle] > number {
+            low = middle + 1;
+        } else {
+            high = middle;
         }
     }
-    numbers.len()
+    low
 }
 
-/// Returns whether that number is one of them.
-fn contains(numbers: &VecDeque<u64>, number: u64) -> bool
-    requires { Falls numbers.now.items }
+/// Returns whether that number is one of them, of which so many are above it.
+fn contains(numbers: &VecDeque<u64>, number: u64, count: usize) -> bool
+    requires falls { Falls numbers.now.items }
+    requires count { count ≡ above number numbers.now.items }
     ensures { result ≡ is_in number numbers.now.items }
 {
-    let place = count_above(numbers, number);
-    place < numbers.len() && numbers[place] == number
+    count < numbers.len() && numbers[count] == number
 }
 
 /// Returns the number of the source that has this place among those that are not left out.
 fn source_at(left_out: &VecDeque<u64>, place: u64) -> u64
-    requires { place + length left_out.now.items < 18446744073709551616 }
+    requires fits { place + length left_out.now.items < 18446744073709551616 }
+    requires falls { Falls left_out.now.items }
     ensures { result ≡ source_at place left_out.now.items }
 {
-    for index in 0..left_out.len() {
-        let number = place + (left_out.len() - index) as u64;
-        if left_out[index] < number {
-            return number;
+    let mut low = 0;
+    let mut high = left_out.len();
+    while low < high {
+        let middle = low + (high - low) / 2;
+        if left_out[middle] < place + (left_out.len() - middle) as u64 {
+            high = middle;
+        } else {
+            low = middle + 1;
         }
     }
-    place
+    place + (left_out.len() - low) as u64
 }
 
 /// Puts a number in front of the others, and returns the last one, which leaves.
@@ -154,7 +185,15 @@ impl Renumbering {
     fn sent_as(&self, number: u64) -> u16
         ensures { is_in number self.now.left_out ≡ false → result ≡ sent_as self.now number }
     {
-        let lower = self.left_out.len() - count_above(&self.left_out, number);
+        self.sent_below(number, count_above(&self.left_out, number))
+    }
+
+    /// Does the same if so many of the packets that were left out are above the number.
+    fn sent_below(&self, number: u64, count: usize) -> u16
+        requires { count ≡ above number self.now.left_out }
+        ensures { is_in number self.now.left_out ≡ false → result ≡ sent_as self.now number }
+    {
+        let lower = self.left_out.len() - count;
         self.offset
             .wrapping_add((number % 65_536) as u16)
             .wrapping_sub(lower as u16)
@@ -195,8 +234,8 @@ impl Renumbering {
     /// A number keeps its place: the answer for a packet that comes again, or late, is that of the first time. A packet that is
     /// left out and is ahead of all before takes no number. If it comes again, it stays left out, even if it is wanted then.
     ///
-    /// It costs a step for each remembered number above the packet's, at most [`MAX_LEFT_OUT`]. It allocates only for a packet
-    /// that is left out.
+    /// A packet that comes late costs a search by halves among the remembered numbers, at most [`MAX_LEFT_OUT`]. It allocates only
+    /// for a packet that is left out.
     ///
     /// # Errors
     ///
@@ -228,10 +267,11 @@ impl Renumbering {
         requires within { number ≤ self.now.highest }
         ensures { result ≡ placed self.now number wanted }
     {
-        if contains(&self.left_out, number) {
+        let count = count_above(&self.left_out, number);
+        if contains(&self.left_out, number, count) {
             return Placed::LeftOut;
         }
-        let sent = self.sent_as(number);
+        let sent = self.sent_below(number, count);
         if wanted {
             Placed::Sent(sent)
         } else {
@@ -277,7 +317,7 @@ impl Renumbering {
     }
 
     /// Returns the number of the source's packet that is sent under this number: not above the highest number so far, not left
-    /// out, and not too old. `None`: there is no such packet. It costs a step for each remembered number above the packet's.
+    /// out, and not too old. `None`: there is no such packet. It costs a search by halves among the remembered numbers.
     pub fn source_of(&self, sent: u16) -> Option<u64>
         ensures some { IfSome result (λ number. HasNumber self.now sent number) }
         ensures none { IfNone result ((number : ℕ) → HasNumber self.now sent number → ⊥) }

@@ -2,7 +2,7 @@
 
 //! One stream of a viewer: packets of one source after another, under the viewer's SSRC, payload type, numbers and times.
 
-use crate::forward::ids::{ForwardedIds, IdOffsets};
+use crate::forward::ids::{ForwardedIds, IdOffsets, PayloadIds};
 use crate::forward::payloads::{closing_id, ids_in, rewrite};
 use crate::forward::renumbering::{Placed, Renumbering};
 use crate::forward::times::Retiming;
@@ -107,7 +107,7 @@ pub struct Forwarder {
     written_at: Option<u64>,
     /// The highest number of the source that was sent. Packets above it may have been left out.
     latest: u64,
-    /// Memory for the payload of a packet of VP8 or VP9.
+    /// Memory for the payload of a packet of VP9, and of retransmissions of VP8.
     payload: Vec<u8>,
 }
 
@@ -173,6 +173,27 @@ struct Place {
     time: u32,
 }
 
+/// The ids of a payload that was received, and what was added to them.
+#[derive(Clone, Copy, Debug)]
+struct SentIds {
+    offsets: IdOffsets,
+    ids: Option<PayloadIds>,
+}
+
+/// Returns the header of a packet that is sent under this number and time.
+#[inline]
+fn header_under(settings: ForwardSettings, place: Place, marker: bool) -> PacketHeader<'static> {
+    PacketHeader {
+        marker,
+        payload_type: settings.payload_type,
+        sequence_number: place.number,
+        timestamp: place.time,
+        ssrc: settings.ssrc,
+        csrcs: &[],
+        extension: None,
+    }
+}
+
 /// Writes a packet under this number and time, and replaces what `out` has.
 fn write_under(
     settings: ForwardSettings,
@@ -181,21 +202,26 @@ fn write_under(
     out: &mut Vec<u8>,
 ) -> Result<(), AllocError> {
     out.clear();
-    let header = PacketHeader {
-        marker: packet.header.marker,
-        payload_type: settings.payload_type,
-        sequence_number: place.number,
-        timestamp: place.time,
-        ssrc: settings.ssrc,
-        csrcs: &[],
-        extension: None,
-    };
     let sent = RtpPacket {
-        header,
+        header: header_under(settings, place, packet.header.marker),
         payload: packet.payload,
         padding: packet.padding,
     };
     sent.write(out)
+}
+
+/// Writes a header and a payload of VP8 with ids by these offsets. `out` is empty before. The payload is copied once, and the ids are
+/// written over those of the copy. Returns the ids of the payload.
+fn write_vp8(
+    header: PacketHeader<'_>,
+    offsets: IdOffsets,
+    payload: &[u8],
+    out: &mut Vec<u8>,
+) -> Result<Option<PayloadIds>, AllocError> {
+    header.write(out)?;
+    let start = out.len();
+    out.try_extend(payload)?;
+    Ok(offsets.write_vp8(payload, &mut out[start..]))
 }
 
 /// Writes a packet with this header, and with a number in front of its payload (RFC 4588, section 4). `out` is empty before.
@@ -278,7 +304,7 @@ impl Forwarder {
     /// - AV1: the first packet of a coded video sequence: N is set, and Z is clear (RTP payload format for AV1, section 4.4).
     /// - Other codecs: any packet.
     ///
-    /// It copies the payload once, a payload of VP8 three times, and one of VP9 twice. Once `out` has grown to the largest packet, it does not allocate.
+    /// It copies the payload once, and a payload of VP9 twice. Once `out` has grown to the largest packet, it does not allocate.
     ///
     /// # Errors
     ///
@@ -313,8 +339,10 @@ impl Forwarder {
         let number = extended(self.numbers.highest(), packet.header.sequence_number);
         match self.numbers.placed(number) {
             Placed::Sent(sent) => {
-                self.write_again_as(sent, packet, out)?;
-                self.record(now, number, packet);
+                let offsets = self.offsets_at(number);
+                let place = self.place_at(sent, packet);
+                let ids = self.write_as(offsets, place, packet, out)?;
+                self.record(now, number, SentIds { offsets, ids }, packet);
                 Ok(Forwarded::Written)
             }
             Placed::LeftOut => Ok(Forwarded::LeftOut),
@@ -322,48 +350,77 @@ impl Forwarder {
         }
     }
 
-    /// Records that a packet was written.
-    fn record(&mut self, now: u64, number: u64, packet: &RtpPacket<'_>) {
+    /// Returns the number and the time that a packet is sent with.
+    #[inline]
+    fn place_at(&self, number: u16, packet: &RtpPacket<'_>) -> Place {
+        Place {
+            number,
+            time: self.times.sent_as(packet.header.timestamp),
+        }
+    }
+
+    /// Records that a packet with these ids was written.
+    #[inline]
+    fn record(&mut self, now: u64, number: u64, sent: SentIds, packet: &RtpPacket<'_>) {
         if number > self.numbers.highest() {
             self.written_at = Some(now);
-            let offsets = self.offsets_at(number);
-            let ids = ids_in(self.settings.codec, packet.payload);
-            self.ids.record(offsets, ids);
+            self.ids.record(sent.offsets, sent.ids);
         } else if number > self.latest {
-            let offsets = self.offsets_at(number);
-            let ids = ids_in(self.settings.codec, packet.payload);
-            self.ids.record_late(offsets, ids);
+            self.ids.record_late(sent.offsets, sent.ids);
         }
         self.latest = self.latest.max(number);
         self.numbers.record(number);
         self.times.record(packet.header.timestamp);
     }
 
-    /// Writes a packet with ids by these offsets, under this number and time.
+    /// Writes a packet with ids by these offsets, under this number and time. Returns the ids of the payload received.
     fn write_as(
         &mut self,
         offsets: IdOffsets,
         place: Place,
         packet: &RtpPacket<'_>,
         out: &mut Vec<u8>,
-    ) -> Result<(), AllocError> {
+    ) -> Result<Option<PayloadIds>, AllocError> {
         match self.settings.codec {
-            Codec::Vp8 | Codec::Vp9 => {
-                rewrite(
-                    self.settings.codec,
-                    offsets,
-                    packet.payload,
-                    &mut self.payload,
-                )?;
-                let rewritten = RtpPacket {
-                    header: packet.header,
-                    payload: &self.payload,
-                    padding: packet.padding,
-                };
-                write_under(self.settings, place, &rewritten, out)
+            Codec::Vp8 if packet.padding == 0 => {
+                let header = header_under(self.settings, place, packet.header.marker);
+                let answer = write_vp8(header, offsets, packet.payload, out);
+                if answer.is_err() {
+                    out.clear();
+                }
+                answer
             }
-            _ => write_under(self.settings, place, packet, out),
+            Codec::Vp8 | Codec::Vp9 => {
+                self.write_moved(offsets, place, packet, out)?;
+                Ok(ids_in(self.settings.codec, packet.payload))
+            }
+            _ => {
+                write_under(self.settings, place, packet, out)?;
+                Ok(None)
+            }
         }
+    }
+
+    /// Writes a packet of VP8 or VP9 with ids by these offsets, under this number and time. The payload is copied twice.
+    fn write_moved(
+        &mut self,
+        offsets: IdOffsets,
+        place: Place,
+        packet: &RtpPacket<'_>,
+        out: &mut Vec<u8>,
+    ) -> Result<(), AllocError> {
+        rewrite(
+            self.settings.codec,
+            offsets,
+            packet.payload,
+            &mut self.payload,
+        )?;
+        let rewritten = RtpPacket {
+            header: packet.header,
+            payload: &self.payload,
+            padding: packet.padding,
+        };
+        write_under(self.settings, place, &rewritten, out)
     }
 
     /// Returns what is added to the ids in the packet with this number of the source that is forwarded.
@@ -387,8 +444,9 @@ impl Forwarder {
         packet: &RtpPacket<'_>,
         out: &mut Vec<u8>,
     ) -> Result<(), AllocError> {
-        let time = self.times.sent_as(packet.header.timestamp);
-        self.write_as(self.offsets_of(packet), Place { number, time }, packet, out)
+        let place = self.place_at(number, packet);
+        self.write_as(self.offsets_of(packet), place, packet, out)?;
+        Ok(())
     }
 
     /// Goes over to the source of a packet, and writes the packet.

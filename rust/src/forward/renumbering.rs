@@ -45,31 +45,57 @@ pub struct Renumbering {
     left_out: VecDeque<u64>,
 }
 
-/// Returns how many of the numbers are above that one. It is also the place of that one, if it is among them.
-pub(crate) fn count_above(numbers: &VecDeque<u64>, number: u64) -> usize {
-    for place in 0..numbers.len() {
-        if numbers[place] <= number {
-            return place;
+/// Returns whether none of the numbers is above that one.
+#[inline]
+fn is_above_all(numbers: &VecDeque<u64>, number: u64) -> bool {
+    match numbers.front() {
+        None => true,
+        Some(highest) => {
+            if *highest > number {
+                return false;
+            }
+            true
         }
     }
-    numbers.len()
 }
 
-/// Returns whether that number is one of them.
-fn contains(numbers: &VecDeque<u64>, number: u64) -> bool {
-    let place = count_above(numbers, number);
-    place < numbers.len() && numbers[place] == number
+/// Returns how many of the numbers are above that one. It is also the place of that one, if it is among them.
+pub(crate) fn count_above(numbers: &VecDeque<u64>, number: u64) -> usize {
+    // Packets in order are above all numbers.
+    if is_above_all(numbers, number) {
+        return 0;
+    }
+    let mut low = 0;
+    let mut high = numbers.len();
+    while low < high {
+        let middle = low + (high - low) / 2;
+        if numbers[middle] > number {
+            low = middle + 1;
+        } else {
+            high = middle;
+        }
+    }
+    low
+}
+
+/// Returns whether that number is one of them, of which so many are above it.
+fn contains(numbers: &VecDeque<u64>, number: u64, count: usize) -> bool {
+    count < numbers.len() && numbers[count] == number
 }
 
 /// Returns the number of the source that has this place among those that are not left out.
 fn source_at(left_out: &VecDeque<u64>, place: u64) -> u64 {
-    for index in 0..left_out.len() {
-        let number = place + (left_out.len() - index) as u64;
-        if left_out[index] < number {
-            return number;
+    let mut low = 0;
+    let mut high = left_out.len();
+    while low < high {
+        let middle = low + (high - low) / 2;
+        if left_out[middle] < place + (left_out.len() - middle) as u64 {
+            high = middle;
+        } else {
+            low = middle + 1;
         }
     }
-    place
+    place + (left_out.len() - low) as u64
 }
 
 /// Puts a number in front of the others, and returns the last one, which leaves.
@@ -117,7 +143,12 @@ impl Renumbering {
 
     /// Returns the number under which the packet is sent, if it is not left out.
     fn sent_as(&self, number: u64) -> u16 {
-        let lower = self.left_out.len() - count_above(&self.left_out, number);
+        self.sent_below(number, count_above(&self.left_out, number))
+    }
+
+    /// Does the same if so many of the packets that were left out are above the number.
+    fn sent_below(&self, number: u64, count: usize) -> u16 {
+        let lower = self.left_out.len() - count;
         self.offset
             .wrapping_add((number % 65_536) as u16)
             .wrapping_sub(lower as u16)
@@ -154,8 +185,8 @@ impl Renumbering {
     /// A number keeps its place: the answer for a packet that comes again, or late, is that of the first time. A packet that is
     /// left out and is ahead of all before takes no number. If it comes again, it stays left out, even if it is wanted then.
     ///
-    /// It costs a step for each remembered number above the packet's, at most [`MAX_LEFT_OUT`]. It allocates only for a packet
-    /// that is left out.
+    /// A packet that comes late costs a search by halves among the remembered numbers, at most [`MAX_LEFT_OUT`]. It allocates only
+    /// for a packet that is left out.
     ///
     /// # Errors
     ///
@@ -178,10 +209,11 @@ impl Renumbering {
 
     /// Returns the number for a packet that is not above all others.
     fn place_within(&self, number: u64, wanted: bool) -> Placed {
-        if contains(&self.left_out, number) {
+        let count = count_above(&self.left_out, number);
+        if contains(&self.left_out, number, count) {
             return Placed::LeftOut;
         }
-        let sent = self.sent_as(number);
+        let sent = self.sent_below(number, count);
         if wanted {
             Placed::Sent(sent)
         } else {
@@ -214,7 +246,7 @@ impl Renumbering {
     }
 
     /// Returns the number of the source's packet that is sent under this number: not above the highest number so far, not left
-    /// out, and not too old. `None`: there is no such packet. It costs a step for each remembered number above the packet's.
+    /// out, and not too old. `None`: there is no such packet. It costs a search by halves among the remembered numbers.
     #[must_use]
     pub fn source_of(&self, sent: u16) -> Option<u64> {
         let behind = u64::from(self.next_number().wrapping_sub(sent));

@@ -8,6 +8,9 @@ use crate::picture_id::PictureId;
 use crate::vp8::{Vp8Descriptor, Vp8Patch, Vp8PatchBuilder};
 use alloc::vec::Vec;
 
+/// The most bytes of a descriptor (RFC 7741, section 4.2).
+const MAX_DESCRIPTOR: usize = 6;
+
 /// Asks for a PictureID, if there is one.
 fn with_id(builder: Vp8PatchBuilder, id: Option<u16>) -> Vp8PatchBuilder {
     match id {
@@ -37,6 +40,17 @@ fn ids_of(descriptor: &Vp8Descriptor) -> PayloadIds {
     }
 }
 
+/// Writes the bytes of a patch over a copy of the payload. Only the descriptor is copied once more.
+#[inline]
+fn patch_front(patch: Vp8Patch, payload: &[u8], copy: &mut [u8]) {
+    let front = payload.len().min(MAX_DESCRIPTOR);
+    if patch.reaches(front) {
+        patch.copy_to(&payload[..front], &mut copy[..front]);
+    } else {
+        patch.copy_to(payload, copy);
+    }
+}
+
 impl PayloadIds {
     /// Returns the ids in a payload of VP8. `None`: the payload has no descriptor. Does not allocate.
     #[must_use]
@@ -52,15 +66,34 @@ impl IdOffsets {
     /// Returns the patch that gives a payload of VP8 the ids of the viewer's stream. `None`: the payload has no descriptor.
     #[must_use]
     pub fn patch(self, payload: &[u8]) -> Option<Vp8Patch> {
-        let Ok(descriptor) = Vp8Descriptor::parse(payload) else {
-            return None;
-        };
-        let ids = ids_of(&descriptor).moved(self);
+        match Vp8Descriptor::parse(payload) {
+            Ok(descriptor) => self.patch_of(&descriptor, ids_of(&descriptor)),
+            Err(_) => None,
+        }
+    }
+
+    /// Returns the patch for a payload with this descriptor, which has these ids.
+    #[inline]
+    fn patch_of(self, descriptor: &Vp8Descriptor, ids: PayloadIds) -> Option<Vp8Patch> {
+        let ids = ids.moved(self);
         let builder = with_id(descriptor.patch(), ids.picture());
         match with_tl0(builder, ids.tl0_pic_idx).build() {
             Ok(patch) => Some(patch),
             Err(_) => None,
         }
+    }
+
+    /// Writes the ids of the viewer's stream over those in `copy`, which has the bytes of this payload of VP8, and returns those of the
+    /// payload. `None`: it has no descriptor, and stays as it is.
+    pub(crate) fn write_vp8(self, payload: &[u8], copy: &mut [u8]) -> Option<PayloadIds> {
+        let Ok(descriptor) = Vp8Descriptor::parse(payload) else {
+            return None;
+        };
+        let ids = ids_of(&descriptor);
+        if let Some(patch) = self.patch_of(&descriptor, ids) {
+            patch_front(patch, payload, copy);
+        }
+        Some(ids)
     }
 
     /// Writes a payload of VP8 with the ids of the viewer's stream, and replaces what `out` has. A payload without a descriptor stays

@@ -1,4 +1,4 @@
-use Rattle.std.proofs.Common.{rules, ◌≡◌, sym, ◌∙◌, Some}
+use Rattle.std.proofs.Common.{rules, ◌≡◌, Some}
 use Rattle.std.proofs.Math.Facts.{Fits-below}
 use Rattle.std.specs.Option.{option_map}
 use Rattle.codec_payload_base.specs.PictureIds.{id_value}
