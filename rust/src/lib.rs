@@ -211,23 +211,91 @@ pub mod wire;
 #[doc(hidden)]
 pub mod xr;
 
-pub use buffer::{Depacketized, DepacketizingBuffer, PoppedUnit};
-pub use codec::{CodecDepacketizer, CodecPacketizer, Depacketizer, Packetizer};
+// The names of the first page, each with an example.
+#[doc = include_str!("doc/Depacketized.md")]
+pub use buffer::Depacketized;
+#[doc = include_str!("doc/DepacketizingBuffer.md")]
+pub use buffer::DepacketizingBuffer;
+#[doc = include_str!("doc/PoppedUnit.md")]
+pub use buffer::PoppedUnit;
+#[doc = include_str!("doc/CodecDepacketizer.md")]
+pub use codec::CodecDepacketizer;
+#[doc = include_str!("doc/CodecPacketizer.md")]
+pub use codec::CodecPacketizer;
+#[doc = include_str!("doc/Depacketizer.md")]
+pub use codec::Depacketizer;
+#[doc = include_str!("doc/Packetizer.md")]
+pub use codec::Packetizer;
+#[doc = include_str!("doc/PacketError.md")]
 pub use error::PacketError;
 #[cfg(feature = "std")]
 pub use ext::clock::Clock;
+#[doc = include_str!("doc/UnsupportedCodec.md")]
 pub use ext::conversions::UnsupportedCodec;
+#[doc = include_str!("doc/LostFrame.md")]
 pub use ext::popped::LostFrame;
-pub use history::{History, HistorySettings, read_requests};
+#[doc = include_str!("doc/History.md")]
+pub use history::History;
+#[doc = include_str!("doc/HistorySettings.md")]
+pub use history::HistorySettings;
+#[doc = include_str!("doc/read_requests.md")]
+pub use history::read_requests;
+#[doc = include_str!("doc/CodecExtra.md")]
 pub use interface::CodecExtra;
+#[doc = include_str!("doc/AllocError.md")]
 pub use memory::AllocError;
-pub use sender::{Sample, Sender, SenderSettings};
-pub use session::{
-    Arrival, Ending, Event, FeedbackSettings, Format, Session, SessionSettings,
-    SessionSettingsError, SsrcPair, StreamInfo,
-};
-pub use stream::{Popped, ReceiveError, Receiver, ReceiverSettings, RedSettings, Retransmission};
-pub use wire::{Codec, ExtensionValues, Frequency, MediaTime, Pt, SeqNo, Ticks};
+#[doc = include_str!("doc/Sample.md")]
+pub use sender::Sample;
+#[doc = include_str!("doc/Sender.md")]
+pub use sender::Sender;
+#[doc = include_str!("doc/SenderSettings.md")]
+pub use sender::SenderSettings;
+#[doc = include_str!("doc/Arrival.md")]
+pub use session::Arrival;
+#[doc = include_str!("doc/Ending.md")]
+pub use session::Ending;
+#[doc = include_str!("doc/Event.md")]
+pub use session::Event;
+#[doc = include_str!("doc/FeedbackSettings.md")]
+pub use session::FeedbackSettings;
+#[doc = include_str!("doc/Format.md")]
+pub use session::Format;
+#[doc = include_str!("doc/Session.md")]
+pub use session::Session;
+#[doc = include_str!("doc/SessionSettings.md")]
+pub use session::SessionSettings;
+#[doc = include_str!("doc/SessionSettingsError.md")]
+pub use session::SessionSettingsError;
+#[doc = include_str!("doc/SsrcPair.md")]
+pub use session::SsrcPair;
+#[doc = include_str!("doc/StreamInfo.md")]
+pub use session::StreamInfo;
+#[doc = include_str!("doc/Popped.md")]
+pub use stream::Popped;
+#[doc = include_str!("doc/ReceiveError.md")]
+pub use stream::ReceiveError;
+#[doc = include_str!("doc/Receiver.md")]
+pub use stream::Receiver;
+#[doc = include_str!("doc/ReceiverSettings.md")]
+pub use stream::ReceiverSettings;
+#[doc = include_str!("doc/RedSettings.md")]
+pub use stream::RedSettings;
+#[doc = include_str!("doc/Retransmission.md")]
+pub use stream::Retransmission;
+#[doc = include_str!("doc/Codec.md")]
+pub use wire::Codec;
+#[doc = include_str!("doc/ExtensionValues.md")]
+pub use wire::ExtensionValues;
+#[doc = include_str!("doc/Frequency.md")]
+pub use wire::Frequency;
+#[doc = include_str!("doc/MediaTime.md")]
+pub use wire::MediaTime;
+#[doc = include_str!("doc/Pt.md")]
+pub use wire::Pt;
+#[doc = include_str!("doc/SeqNo.md")]
+pub use wire::SeqNo;
+#[doc = include_str!("doc/Ticks.md")]
+pub use wire::Ticks;
 
 // The other names of `src/packet`, which are documented in `parts`.
 #[doc(hidden)]
