@@ -154,12 +154,26 @@ static void start(void) {
     network_start();
 }
 
-/* How long nothing is due, in ms. */
-static int wait_until(uint64_t tick) {
-    uint64_t now = now_ms(), http = http_deadline(now), network = network_deadline(), until = MIN(tick, MIN(http, network));
+/* How long nothing is due. */
+static struct timespec wait_until(uint64_t tick) {
+    uint64_t now = now_us(), http = http_deadline(now / 1000), until = MIN(tick, MIN(http, network_deadline()));
     EACH_PEER (it)
         if (it->publisher) until = MIN(until, publisher_deadline(it));
-    return until > now ? (int)(until - now) : 0;
+    until = until < UINT64_MAX / 1000 ? until * 1000 : UINT64_MAX;
+    EACH_PEER (it)
+        if (it->viewer && it->secure) until = MIN(until, MIN(path_deadline(it), path_next_choice(it)));
+    uint64_t wait = until > now ? until - now : 0;
+    return (struct timespec){(time_t)(wait / 1000000), (long)(wait % 1000000) * 1000};
+}
+
+/* What leaves for viewers now, and which layers they get. */
+static void serve_viewers(void) {
+    uint64_t now = now_us();
+    EACH_PEER (it) {
+        if (!it->viewer || !it->secure || it->ended) continue;
+        if (path_next_choice(it) <= now) path_tick(it, now);
+        if (path_deadline(it) <= now) path_send(it, now);
+    }
 }
 
 int main(int argc, char **argv) {
@@ -173,7 +187,8 @@ int main(int argc, char **argv) {
     printf("http://%s:%u\n", the.address, the.http);
     fflush(stdout);
     while (!ended) {
-        if (poll(ports, 2, wait_until(tick)) > 0 && ports[0].revents) network_receive(take);
+        struct timespec wait = wait_until(tick);
+        if (ppoll(ports, 2, &wait, NULL) > 0 && ports[0].revents) network_receive(take);
         network_deliver(now_ms());
         http_run();
         EACH_PEER (it)
@@ -182,6 +197,7 @@ int main(int argc, char **argv) {
             peers_tick(now_ms());
             tick = now_ms() + TICK;
         }
+        serve_viewers();
         network_flush();
     }
     EACH_PEER (it) peer_free(it);

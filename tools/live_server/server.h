@@ -43,6 +43,7 @@ typedef struct {
 
 typedef struct publisher publisher; /* receive.c */
 typedef struct outgoing outgoing;   /* viewers.c */
+typedef struct viewer_path viewer_path; /* path.c */
 
 /* A browser: a publisher or a viewer. */
 typedef struct {
@@ -67,6 +68,7 @@ typedef struct {
     uint8_t transport_id; /* id of the header extension with the transport-wide number; 0: none */
     publisher *publisher;         /* one of the two: a publisher, or the streams of a viewer by their kinds */
     outgoing *viewer;
+    viewer_path *path;            /* of a viewer */
 } peer;
 
 /* How the network is made worse, each way. */
@@ -155,6 +157,9 @@ uint64_t publisher_deadline(peer *it);
 void publisher_wants_keyframe(peer *it, int track);
 bool publisher_clock(peer *it, int track, cpay_sender_clock_info *clock);
 source *publisher_source(peer *it, int track);
+void publisher_count(peer *it, int track, const cpay_rtp_info *info, int temporal, bool begins_keyframe);
+uint64_t publisher_rate(const peer *it, int track, int temporal);
+uint64_t publisher_keyframe(const peer *it, int track);
 void publisher_stats(peer *it, FILE *to);
 void publisher_free(peer *it);
 int last_track(const peer *it); /* of video: the layer that is recorded, and that a viewer gets first */
@@ -168,6 +173,12 @@ void viewer_take(peer *it, const uint8_t *bytes, size_t size); /* RTCP */
 void viewer_tick(peer *it, uint64_t now);
 void viewer_stats(peer *it, FILE *to);
 void viewer_free(peer *it);
+
+/* path.c: the path to a viewer. Times are in microseconds. */
+void path_send(peer *it, uint64_t now); /* what may leave now */
+void path_tick(peer *it, uint64_t now); /* chooses layers */
+uint64_t path_deadline(const peer *it);
+uint64_t path_next_choice(const peer *it);
 
 /* rtcp.c: RTCP of viewers */
 typedef struct {

@@ -1,0 +1,85 @@
+/* Which layers a viewer gets. The server lists what it can send to the viewer, with the rates that it measures; the path chooses the
+ * highest choice that it carries. */
+#include "viewers.h"
+
+#include <sys/param.h>
+
+enum {
+    INTERVAL = 10000,       /* us between two choices */
+    KEYFRAME_WITHIN = 200,  /* ms: a keyframe of a larger size is to be through by then */
+    LITTLE = 150,           /* ms: while more waits, of video the lowest temporal layer alone is sent, and no RED */
+    AHEAD = 150             /* percent: the path is tried up to so much of the highest choice */
+};
+
+/* What a viewer gets with a choice. */
+typedef struct {
+    int track, temporal;
+    bool red;
+} layers;
+
+typedef struct {
+    layers layers[MOST_CHOICES];
+    cpay_path_choice rates[MOST_CHOICES];
+    size_t len;
+} list;
+
+/* The highest layer up to `most` that the publisher sends now. */
+static int highest_sent(peer *from, int most) {
+    int track = MIN(most, last_track(from));
+    while (track > VIDEO && publisher_rate(from, track, ALL_LAYERS) == 0) track--;
+    return track;
+}
+
+/* Adds a choice. What a person does not wish, or the publisher does not send, is the nearest choice that is. */
+static void add(list *to, peer *it, peer *from, int track, int temporal, bool red) {
+    const viewer_path *path = it->path;
+    int most = highest_sent(from, path->wishes.most), least = MIN(path->wishes.least, most);
+    if (track > most) track = most, temporal = ALL_LAYERS, red = true;
+    if (track < least) track = least, temporal = MIN(temporal, 1), red = false;
+    temporal = MIN(temporal, path->wishes.temporal);
+    uint64_t video = it->media[VIDEO].used ? publisher_rate(from, track, temporal) : 0, audio = publisher_rate(from, AUDIO, 0);
+    if (red && it->media[AUDIO].red_payload_type) audio += audio / 2;
+    bool begins = it->viewer[VIDEO].begun && track > it->viewer[VIDEO].track;
+    to->layers[to->len] = (layers){track, temporal, red};
+    to->rates[to->len++] = (cpay_path_choice){
+        .rate = video + audio, .begin = begins ? publisher_keyframe(from, track) * 8 * 1000 / KEYFRAME_WITHIN : 0};
+}
+
+/* From the lowest to the highest. A larger size with a quarter of its frames is no choice: a person sees it stutter. */
+static void list_choices(list *to, peer *it, peer *from) {
+    to->len = 0;
+    for (int temporal = 0; temporal < 3; temporal++) add(to, it, from, VIDEO, temporal, false);
+    add(to, it, from, VIDEO, ALL_LAYERS, true);
+    for (int track = VIDEO + 1; track <= last_track(from); track++) {
+        for (int temporal = 1; temporal < 3; temporal++) add(to, it, from, track, temporal, false);
+        add(to, it, from, track, ALL_LAYERS, true);
+    }
+    to->layers[to->len] = to->layers[to->len - 1];
+    to->rates[to->len] = (cpay_path_choice){.rate = to->rates[to->len - 1].rate * AHEAD / 100};
+    to->len++;
+}
+
+/* Whether much waits for the pace. */
+static bool is_late(const viewer_path *path) {
+    return path->follows && path->state.waiting * 8 * 1000 > (uint64_t)LITTLE * MAX(path->state.estimate, 1);
+}
+
+void path_choose(peer *it, peer *from, uint64_t now) {
+    viewer_path *path = it->path;
+    cpay_path_order_info order = {0};
+    list all;
+    path->next_choice = now + INTERVAL;
+    if (!from || !it->secure || path->unheard == 0) return; /* what is silent says nothing about the path */
+    list_choices(&all, it, from);
+    if (it->media[VIDEO].used && (all.rates[0].rate == 0 || !it->viewer[VIDEO].newest_len)) return;
+    if (cpay_path_choose(&path->carries, now, all.rates, all.len, &order)) return;
+    if (cpay_path_state(&path->carries, &path->state)) return;
+    path->choice = (int)order.choice;
+    path->rates_len = all.len;
+    for (size_t i = 0; i < all.len; i++) path->rates[i] = all.rates[i].rate;
+    layers chosen = all.layers[MIN(order.choice, all.len - 1)];
+    bool late = is_late(path);
+    viewer_goes_to(it, chosen.track, late ? 0 : chosen.temporal, chosen.red && !late);
+    if (it->media[VIDEO].used) path_fill(it, order.padding);
+    path->deadline = 0;
+}
