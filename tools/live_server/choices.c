@@ -14,7 +14,6 @@ enum {
 /* What a viewer gets with a choice. */
 typedef struct {
     int track, temporal;
-    bool red;
 } layers;
 
 typedef struct {
@@ -31,32 +30,38 @@ static int highest_sent(peer *from, int most) {
 }
 
 /* Adds a choice. What a person does not wish, or the publisher does not send, is the nearest choice that is. */
-static void add(list *to, peer *it, peer *from, int track, int temporal, bool red) {
+static void add(list *to, peer *it, peer *from, int track, int temporal) {
     const viewer_path *path = it->path;
     int most = highest_sent(from, path->wishes.most), least = MIN(path->wishes.least, most);
-    if (track > most) track = most, temporal = ALL_LAYERS, red = true;
-    if (track < least) track = least, temporal = MIN(temporal, 1), red = false;
+    if (track > most) track = most, temporal = ALL_LAYERS;
+    if (track < least) track = least, temporal = MIN(temporal, 1);
     temporal = MIN(temporal, path->wishes.temporal);
-    uint64_t video = it->media[VIDEO].used ? publisher_rate(from, track, temporal) : 0, audio = publisher_rate(from, AUDIO, 0);
-    if (red && it->media[AUDIO].red_payload_type) audio += audio / 2;
+    uint64_t video = it->media[VIDEO].used ? publisher_rate(from, track, temporal) : 0;
     bool begins = it->viewer[VIDEO].begun && track > it->viewer[VIDEO].track;
-    to->layers[to->len] = (layers){track, temporal, red};
-    to->rates[to->len++] = (cpay_path_choice){
-        .rate = video + audio, .begin = begins ? publisher_keyframe(from, track) * 8 * 1000 / KEYFRAME_WITHIN : 0};
+    to->layers[to->len] = (layers){track, temporal};
+    to->rates[to->len++] =
+        (cpay_path_choice){.rate = video + publisher_rate(from, AUDIO, 0),
+                           .begin = begins ? publisher_keyframe(from, track) * 8 * 1000 / KEYFRAME_WITHIN : 0};
 }
 
-/* From the lowest to the highest. A larger size with a quarter of its frames is no choice: a person sees it stutter. */
+/* From the lowest to the highest. A larger size with a quarter of its frames is no choice: a person sees it stutter. The last one is
+ * the highest again, with a rate to spare: the path is tried up to it. */
 static void list_choices(list *to, peer *it, peer *from) {
     to->len = 0;
-    for (int temporal = 0; temporal < 3; temporal++) add(to, it, from, VIDEO, temporal, false);
-    add(to, it, from, VIDEO, ALL_LAYERS, true);
+    for (int temporal = 0; temporal < 2; temporal++) add(to, it, from, VIDEO, temporal);
+    add(to, it, from, VIDEO, ALL_LAYERS);
     for (int track = VIDEO + 1; track <= last_track(from); track++) {
-        for (int temporal = 1; temporal < 3; temporal++) add(to, it, from, track, temporal, false);
-        add(to, it, from, track, ALL_LAYERS, true);
+        add(to, it, from, track, 1);
+        add(to, it, from, track, ALL_LAYERS);
     }
     to->layers[to->len] = to->layers[to->len - 1];
     to->rates[to->len] = (cpay_path_choice){.rate = to->rates[to->len - 1].rate * AHEAD / 100};
     to->len++;
+}
+
+/* Whether the path has room for RED beside a choice: half of the audio's rate more, and a twentieth of all. */
+static bool has_room_for_red(const viewer_path *path, peer *from, uint64_t rate) {
+    return !path->follows || path->state.estimate >= (rate + publisher_rate(from, AUDIO, 0) / 2) * 21 / 20;
 }
 
 /* Whether much waits for the pace. */
@@ -77,9 +82,10 @@ void path_choose(peer *it, peer *from, uint64_t now) {
     path->choice = (int)order.choice;
     path->rates_len = all.len;
     for (size_t i = 0; i < all.len; i++) path->rates[i] = all.rates[i].rate;
-    layers chosen = all.layers[MIN(order.choice, all.len - 1)];
+    size_t chosen = MIN(order.choice, all.len - 1);
+    uint64_t rate = all.rates[chosen < all.len - 1 ? chosen : chosen - 1].rate;
     bool late = is_late(path);
-    viewer_goes_to(it, chosen.track, late ? 0 : chosen.temporal, chosen.red && !late);
+    viewer_goes_to(it, all.layers[chosen].track, late ? 0 : all.layers[chosen].temporal, !late && has_room_for_red(path, from, rate));
     if (it->media[VIDEO].used) path_fill(it, order.padding);
     path->deadline = 0;
 }

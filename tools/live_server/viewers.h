@@ -7,7 +7,7 @@
 enum {
     ALL_LAYERS = 3,    /* more than the highest temporal layer of VP8 that browsers send */
     HEADER = 12,       /* bytes of an RTP header without extension */
-    MOST_CHOICES = 4 + 3 * (MOST_LAYERS - 1) + 1,
+    MOST_CHOICES = 3 + 2 * (MOST_LAYERS - 1) + 1,
     MOST_FILLED = 64,  /* packets of padding that are kept for requests */
     MOST_ORDERED = 512 /* packets of video that wait for a viewer, those that are left out among them */
 };
