@@ -115,7 +115,7 @@ static bool finish(peer *it) {
            use_keys(&it->out, profile, bytes + key, bytes + 2 * key + salt, ssrc_any_outbound);
 }
 
-void dtls_take(peer *it, const uint8_t *bytes, size_t size) {
+void dtls_take(peer *it, const struct sockaddr_in *from, const uint8_t *bytes, size_t size) {
     char none[1];
     if (it->ended || (!it->ssl && !begin(it))) return;
     (void)BIO_reset(SSL_get_rbio(it->ssl)); /* what is left of the datagram before */
@@ -127,7 +127,10 @@ void dtls_take(peer *it, const uint8_t *bytes, size_t size) {
         it->secure = finish(it);
         it->ended = !it->secure;
         peer_says(it, it->secure ? SSL_get_selected_srtp_profile(it->ssl)->name : "not the certificate of its offer, or no SRTP");
-        if (it->secure) peer_secured(it);
+        if (it->secure) {
+            peer_owns(it, from); /* whoever ended a handshake is there */
+            peer_secured(it);
+        }
     }
     send_records(it);
 }

@@ -19,7 +19,7 @@
 enum { TICK = 50 }; /* ms between two looks at all peers */
 
 options the = {
-    .address = "127.0.0.1", .folder = "recordings", .http = 8080, .udp = 8081, .bitrate = 2500000};
+    .address = "127.0.0.1", .folder = "recordings", .http = 8080, .udp = 8081, .peers = 1024, .bitrate = 2500000};
 static volatile sig_atomic_t ended;
 
 static const struct argp_option names[] = {
@@ -27,6 +27,7 @@ static const struct argp_option names[] = {
     {"http", 'h', "N", 0, "port of the page (8080)", 0},
     {"udp", 'u', "N", 0, "port of the media (8081)", 0},
     {"candidate", 'c', "A", 0, "address under which browsers reach the UDP port; up to 4 (those of the interfaces)", 0},
+    {"peers", 'n', "N", 0, "at most N browsers at once (1024)", 0},
     {"folder", 'f', "F", 0, "folder of the recordings (recordings)", 0},
     {"page", 'p', "F", 0, "file of the page (page.html here, or beside the program)", 0},
     {"token", 't', "WORD", 0, "who publishes, watches or changes something must know this word", 0},
@@ -79,6 +80,7 @@ static error_t read_option(int option, char *value, struct argp_state *state) {
     case 'h': the.http = (uint16_t)number_of(value, 65535); break;
     case 'u': the.udp = (uint16_t)number_of(value, 65535); break;
     case 'c': add_candidate(value); break;
+    case 'n': the.peers = (unsigned)number_of(value, MOST_PEERS); break;
     case 'f': the.folder = value; break;
     case 'p': the.page = value; break;
     case 't': the.token = value; break;
@@ -121,7 +123,7 @@ static void take(const struct sockaddr_in *from, uint8_t *bytes, size_t size) {
     if (size == 0 || ice_take(from, bytes, size)) return;
     peer *it = peer_at(from);
     if (!it) return;
-    if (bytes[0] >= 20 && bytes[0] < 64) dtls_take(it, bytes, size);
+    if (bytes[0] >= 20 && bytes[0] < 64) dtls_take(peer_handshaking_at(from), from, bytes, size);
     else if (bytes[0] >= 128 && bytes[0] < 192 && network_passes(false, from, bytes, size)) take_media(from, bytes, size);
 }
 
@@ -150,6 +152,7 @@ static void start(void) {
     find_page();
     find_candidates();
     if (the.candidates_len == 0) add_candidate(the.address);
+    peers_start();
     dtls_start();
     network_start();
 }

@@ -13,7 +13,7 @@
 
 /* Bounds. */
 enum {
-    MOST_PEERS = 256,
+    MOST_PEERS = 65535,      /* that the option --peers may name */
     MOST_PUBLISHERS = 32,
     MOST_LAYERS = 3,         /* of simulcast */
     MOST_ADDRESSES = 4,      /* of a peer, and of the server */
@@ -83,6 +83,7 @@ typedef struct {
     const char *candidates[MOST_ADDRESSES]; /* addresses under which browsers reach the UDP port */
     int candidates_len;
     uint16_t http, udp;
+    unsigned peers; /* the most at once */
     bool transport, remb; /* feedback about each packet, or a largest bitrate */
     uint32_t bitrate;     /* of REMB, in bits per second */
     impairment network;
@@ -111,9 +112,9 @@ uint64_t network_deadline(void);
 void network_flush(void);
 
 /* peers.c: the table of peers */
-extern peer peers[MOST_PEERS];
+extern peer *peers, *peers_end; /* room for --peers of them; behind the end none is used */
 #define EACH_PEER(it)                                                                                                            \
-    for (peer *it = peers; it < peers + MOST_PEERS; it++)                                                                        \
+    for (peer *it = peers; it < peers_end; it++)                                                                                 \
         if (it->used)
 void secret(void *bytes, size_t size); /* random bytes */
 bool is_name(const char *text);
@@ -124,8 +125,11 @@ peer *peer_publisher(const char *name);           /* who publishes under the nam
 peer *peer_session(const char *path);             /* whose id the path begins with */
 bool peer_end(const char *id, char *to, size_t room); /* why a session ended; false: it lives, or is forgotten */
 bool peer_is_silent(const peer *it);
+void peers_start(void);
 peer *peer_at(const struct sockaddr_in *from);
+peer *peer_handshaking_at(const struct sockaddr_in *from); /* the one whose keys are not there yet, if there is one */
 void peer_seen(peer *it, const struct sockaddr_in *at, bool nominated);
+void peer_owns(peer *it, const struct sockaddr_in *at); /* all others that are known at the address are not there any more */
 void peer_secured(peer *it);
 void peers_tick(uint64_t now);
 
@@ -138,7 +142,7 @@ bool ice_take(const struct sockaddr_in *from, const uint8_t *bytes, size_t size)
 /* dtls.c */
 extern char dtls_fingerprint[96];
 void dtls_start(void);
-void dtls_take(peer *it, const uint8_t *bytes, size_t size);
+void dtls_take(peer *it, const struct sockaddr_in *from, const uint8_t *bytes, size_t size);
 void dtls_tick(peer *it);
 void dtls_end(peer *it);
 void srtp_send(peer *to, uint8_t *bytes, size_t size, bool rtcp); /* `bytes` are those of network_room */

@@ -290,11 +290,11 @@ def test_refusals():
     return "all"
 
 
-def answers(it, wanted, *request):
-    """The headers of a reply with the wanted status."""
-    status, text, headers = it.request(*request)
-    require(status == wanted, f"{request[0]} {request[1]}: {status} {text}, and not {wanted}")
-    return headers
+def answers(it, wanted, *request, text=False):
+    """The headers of a reply with the wanted status, or its text."""
+    status, body, headers = it.request(*request)
+    require(status == wanted, f"{request[0]} {request[1]}: {status} {body}, and not {wanted}")
+    return body if text else headers
 
 
 def test_sessions():
@@ -327,6 +327,57 @@ def test_token():
         wait_for("frame", lambda: page.statistic("publish").get("framesSent", 0) > 30)
         said = [reads(it.page(f"watch&{query}"), words, 5) for query, words in (("", "asks for a token"), ("token=other", "token is wrong"))]
     return f"published; {said}"
+
+
+def handshake(it, name, port, key, certificate, finger):
+    """A publisher without a browser: an offer, a request of STUN and DTLS by openssl, from this port. Returns the process and how long it
+    took until the server had its keys."""
+    answer = answers(it, 201, "POST", f"/whip/{name}", OFFER.replace("{codec}", "VP8").replace(":".join(["AB"] * 32), finger), SDP, text=True)
+    user, password = (re.search(rf"a=ice-{word}:(\S+)", answer)[1] for word in ("ufrag", "pwd"))
+    with socket.socket(socket.AF_INET, socket.SOCK_DGRAM) as to:
+        to.bind(("127.0.0.1", port))
+        to.settimeout(5)
+        to.sendto(stun_request(user, password), ("127.0.0.1", it.udp))
+        require(to.recv(200)[:2] == b"\1\1", "the request of STUN is answered")
+    words = ["openssl", "s_client", "-dtls1_2", "-connect", f"127.0.0.1:{it.udp}", "-bind", f"127.0.0.1:{port}", "-key", key, "-cert", certificate,
+             "-use_srtp", "SRTP_AES128_CM_SHA1_80"]
+    began = time.monotonic()
+    process = subprocess.Popen(words, stdin=subprocess.PIPE, stdout=subprocess.DEVNULL, stderr=subprocess.DEVNULL)
+    wait_for(f"keys of {name}", lambda: any(each["name"] == name and each["connected"] for each in it.stats()["publishers"]), 8)
+    return process, time.monotonic() - began
+
+
+def test_reused():
+    """A browser ends without a word, and the system gives its port to the next one at once: its handshake ends as soon as any."""
+    took = []
+    with Server() as it:
+        key, certificate = f"{it.folder.name}/key.pem", f"{it.folder.name}/certificate.pem"
+        make = ["openssl", "req", "-x509", "-newkey", "ec", "-pkeyopt", "ec_paramgen_curve:P-256", "-nodes", "-subj", "/CN=test", "-keyout", key, "-out", certificate]
+        subprocess.run(make, check=True, capture_output=True)
+        printed = subprocess.run(["openssl", "x509", "-in", certificate, "-noout", "-fingerprint", "-sha256"], check=True, capture_output=True, text=True)
+        port = free_port(socket.SOCK_DGRAM)
+        for name in ("first", "second", "third"):
+            process, seconds = handshake(it, name, port, key, certificate, printed.stdout.strip().split("=")[1])
+            took.append(round(seconds, 1))
+            process.kill()
+            process.communicate()
+        require(len(it.stats()["publishers"]) == 3, "all three are in the table")
+    require(max(took) < 0.9, f"handshakes took {took} s")
+    return f"three handshakes from one port, each within {max(took)} s"
+
+
+def test_full():
+    """A server that is full takes the place of a browser that ended without a word."""
+    with Server("--peers", "2") as it:
+        offer = OFFER.replace("{codec}", "VP8")
+        answers(it, 201, "POST", "/whip/one", offer, SDP)
+        answers(it, 201, "POST", "/whip/two", offer, SDP)
+        answers(it, 503, "POST", "/whip/three", offer, SDP)
+        time.sleep(4.5)
+        answers(it, 201, "POST", "/whip/three", offer, SDP)
+        names = sorted(each["name"] for each in it.stats()["publishers"])
+    require(names == ["three", "two"], names)
+    return "the silent one left"
 
 
 # ---- what a person reads ----
@@ -623,7 +674,7 @@ TESTS = {f"{codec}-{loss}": (lambda codec=codec, loss=loss: test_call(codec, los
 TESTS |= {f"firefox-{name}": (lambda words=words: test_firefox(*words)) for name, words in {
     "publishes": (Firefox, Chromium, "VP8", 0), "watches": (Chromium, Firefox, "VP8", 0), "VP8-5": (Firefox, Firefox, "VP8", 5),
     "VP9-2": (Firefox, Firefox, "VP9", 2), "AV1-2": (Firefox, Firefox, "AV1", 2)}.items()}
-TESTS |= {name: globals()[f"test_{name}"] for name in ("refusals", "sessions", "token", "disk", "phone", "picture", "reordered", "viewers", "conference", "feedback", "layers", "fits", "narrow", "reload",
+TESTS |= {name: globals()[f"test_{name}"] for name in ("refusals", "sessions", "token", "reused", "full", "disk", "phone", "picture", "reordered", "viewers", "conference", "feedback", "layers", "fits", "narrow", "reload",
                                                       "left", "restart", "blocked", "taken", "camera", "elsewhere", "aiortc", "damaged", "hostile")}
 
 
