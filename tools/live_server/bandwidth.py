@@ -4,6 +4,7 @@
     ./bandwidth.py [ROW..]                    all rows of the table, as Markdown, or these rows
     ./bandwidth.py --before FOLDER [ROW..]    the same of the live_server that is built in this folder: another state of it
     ./bandwidth.py --seconds [ROW..]          each second of these rows, too
+    ./bandwidth.py --janus SIZE [ROW..]       the same of janus, with the small size (0) or the large one (1): it chooses none itself
 
 A publisher sends two sizes of VP8. Each viewer is behind a link of its own: a rate, or steps of 20 s each, with a queue that drops what
 does not fit, 20 ms each way, and losses. The links are simulated by a relay (relay.py), so no right of root is needed. Server, browsers
@@ -17,8 +18,9 @@ import pathlib
 import sys
 import time
 
-from browsers import require, wait_for
-from relay import Narrow
+from browsers import Failed, wait_for
+from janus import Janus
+from relay import Narrow, Side
 from servers import Server, real_time
 
 STEPS = (3000, 300, 1000, 3000)
@@ -29,17 +31,21 @@ ROWS |= {f"steps-{queue}": (STEPS, queue, 0) for queue in (50, 300, 1000)} | {"s
 ALONE, STEP = 40, 20  # seconds of a row with one rate, and of a step
 SETTLES, LATEST = 5, 2  # seconds until freezes count, and after a change until the choice does
 FREEZE = 250  # ms
+# What a server that says nothing about choices could send, in bit/s: a quarter, half and all of the frames of the small size, half and all of
+# those of the large one. So much they take in the runs of the others.
+TYPICAL = (130_000, 180_000, 277_000, 345_000, 635_000, 950_000)
 
 # The times of the frames that a page shows, with their widths: a track delivers each of them.
 FRAMES = """(() => {
   const times = window.frameTimes = [];
+  window.readFrames = async (track) => {
+    if (track.kind !== "video") return;
+    const reader = new MediaStreamTrackProcessor({ track }).readable.getReader();
+    for (let next; !(next = await reader.read()).done; next.value.close()) times.push([performance.timeOrigin + performance.now(), next.value.displayWidth]);
+  };
   const add = RTCPeerConnection.prototype.addTransceiver;
   RTCPeerConnection.prototype.addTransceiver = function (...all) {
-    if (!this.watched) this.addEventListener("track", async ({ track }) => {
-      if (track.kind !== "video") return;
-      const reader = new MediaStreamTrackProcessor({ track }).readable.getReader();
-      for (let next; !(next = await reader.read()).done; next.value.close()) times.push([performance.timeOrigin + performance.now(), next.value.displayWidth]);
-    });
+    if (!this.watched) this.addEventListener("track", ({ track }) => window.readFrames(track));
     this.watched = true;
     return add.apply(this, all);
   };
@@ -49,15 +55,18 @@ FRAMES = """(() => {
 class Viewer:
     """A viewer behind a link."""
 
-    def __init__(self, it, name):
-        self.name, (self.rates, queue, loss) = name, ROWS[name]
-        self.it, self.seconds = it, STEP * len(self.rates) if len(self.rates) > 1 else ALONE
+    def __init__(self, it, name, row, step):
+        self.name, (self.rates, queue, loss), self.step = name, row, step
+        self.it, self.seconds = it, step * len(self.rates) if len(self.rates) > 1 else ALONE
         steps = [(self.seconds / len(self.rates), 1000 * rate) for rate in self.rates]
-        self.link = Narrow(steps, queue / 1000, loss, seed=len(name) + queue)
-        known = {each["number"] for each in it.stats()["viewers"]}
-        self.page = it.page("watch", script=self.link.to_server(it.udp) + FRAMES)
-        self.number = wait_for("viewer", lambda: next((each["number"] for each in it.stats()["viewers"] if each["number"] not in known), None))
-        self.seen = []
+        self.link, self.seen = Narrow(steps, queue / 1000, loss, seed=len(name) + queue), []
+        self.open()
+
+    def open(self):
+        """Watches from live_server."""
+        known = {each["number"] for each in self.it.stats()["viewers"]}
+        self.page = self.it.page("watch", script=self.link.to_server(self.it.udp) + FRAMES)
+        self.number = wait_for("viewer", lambda: next((each["number"] for each in self.it.stats()["viewers"] if each["number"] not in known), None))
 
     def look(self, stats):
         """Notes what the server says about the viewer now."""
@@ -69,7 +78,7 @@ class Viewer:
     def fits(self, at, rates):
         """The place of the best choice that the link carries with a tenth to spare. -1: the link has just changed."""
         passed = at - self.link.began
-        if passed < SETTLES or any(0 <= passed - STEP * i < LATEST for i in range(len(self.rates)) if len(self.rates) > 1):
+        if passed < SETTLES or any(0 <= passed - self.step * i < LATEST for i in range(len(self.rates)) if len(self.rates) > 1):
             return -1
         kept = self.link.kept * self.link.rate(at) / 1.1
         return max((place for place, rate in enumerate(rates[:-1]) if rate <= kept), default=0)
@@ -83,9 +92,9 @@ class Viewer:
         waits = sorted(1000 * wait for _, wait, _ in noted if wait is not None)
         carried = sum(size for _, wait, size in noted if wait is not None) * 8
         could = sum(1000 * rate * self.seconds / len(self.rates) for rate in self.rates)
-        counted = [(self.fits(at, each["rates"]), each) for at, each in self.seen if each.get("rates") and at < began + self.seconds]
-        at_best = [each["choice"] >= best for best, each in counted if best >= 0]
-        latest = self.seen[-1][1]["video"]
+        counted = [(self.fits(at, each.get("rates") or TYPICAL), each) for at, each in self.seen if at < began + self.seconds]
+        at_best = [each.get("choice", 4 if each["video"]["layer"] == "full" else 2) >= best for best, each in counted if best >= 0]
+        latest = self.seen[-1][1]["video"] if self.seen else {"resent": "", "switches": ""}
         return {
             "frames": sum(began <= at <= began + self.seconds for at, _ in times), "freezes": sum(gap > FREEZE for gap in gaps), "longest": max(gaps, default=0),
             "queue": [waits[int(len(waits) * part / 100)] if waits else 0 for part in (95, 99)], "used": 100 * carried / could,
@@ -119,32 +128,59 @@ def row(name, it):
 HEADS = ("link, kbit/s", "queue, ms", "lost, %", "frames shown", "freezes (longest, ms)", "queue 95 %, ms", "99 %, ms", "link used, %", "best choice, %", "switches", "resent", "dropped")
 
 
-def measure(names, folder=None, options=()):
-    """Viewers behind these links, beside one another, and what they saw."""
+def watched(it, viewers):
+    """Waits for the end of all links, and returns what each viewer saw."""
+    for viewer in viewers:
+        with contextlib.suppress(Failed):
+            wait_for("picture", lambda viewer=viewer: viewer.page.evaluate("window.frameTimes.length"), 10)
+        viewer.offset = viewer.page.evaluate("performance.timeOrigin + performance.now()") / 1000 - time.monotonic()
+    until = max(viewer.link.began + viewer.seconds for viewer in viewers)
+    while time.monotonic() < until:
+        stats = it.stats()
+        for viewer in viewers:
+            viewer.look(stats)
+        time.sleep(0.1)
+    found = {viewer.name: (viewer, viewer.figures()) for viewer in viewers}
+    for viewer in viewers:
+        viewer.link.stopped = True
+    return found
+
+
+def measure(rows, folder=None, step=STEP):
+    """Viewers behind links, beside one another, and what they saw. A link: rates in kbit/s, each for `step` seconds, the queue in ms,
+    the loss in percent."""
     program = pathlib.Path(folder) / "live_server" if folder else "live_server"
-    with real_time(), Server(*options, *(["--page", str(program.parent / "page.html")] if folder else []), program=program) as it:
+    with real_time(), Server(*(["--page", str(program.parent / "page.html")] if folder else []), program=program) as it:
         it.page("publish=camera&layers")
         wait_for("both layers", lambda: sum(stream["frames"] > 200 for stream in it.streams()) == 2, 60)
-        viewers = [Viewer(it, name) for name in names]
-        for viewer in viewers:
-            wait_for("picture", lambda viewer=viewer: viewer.page.evaluate("window.frameTimes.length"))
-            viewer.offset = viewer.page.evaluate("performance.timeOrigin + performance.now()") / 1000 - time.monotonic()
-        until = max(viewer.link.began + viewer.seconds for viewer in viewers)
-        while time.monotonic() < until:
-            stats = it.stats()
-            for viewer in viewers:
-                viewer.look(stats)
-            time.sleep(0.1)
-        found = {viewer.name: (viewer, viewer.figures()) for viewer in viewers}
-        for viewer in viewers:
-            viewer.link.stopped = True
-    return found
+        return watched(it, [Viewer(it, name, each, step) for name, each in rows.items()])
+
+
+class Subscriber(Viewer):
+    """A viewer of janus. Its page comes from live_server, for its origin."""
+
+    def open(self):
+        self.page = Side(self.it.browser(), f"http://127.0.0.1:{self.it.http}/?quiet", FRAMES)
+        wait_for("page", lambda: self.page.evaluate("typeof window.readFrames") == "function")
+        self.janus.watch(self.page, self.link, self.size)
+
+
+def measure_janus(rows, size):
+    """The same of janus."""
+    with real_time(), Server() as it, Janus() as janus:
+        publisher = Side(it.browser(), f"http://127.0.0.1:{it.http}/?quiet")
+        wait_for("page", lambda: publisher.evaluate("typeof window.report") == "function")
+        janus.publish(publisher)
+        time.sleep(10)  # until the bitrate has risen
+        Subscriber.janus, Subscriber.size = janus, size
+        return watched(it, [Subscriber(it, name, each, STEP) for name, each in rows.items()])
 
 
 def main():
     reader = argparse.ArgumentParser(description=__doc__, formatter_class=argparse.RawDescriptionHelpFormatter)
     reader.add_argument("rows", nargs="*", choices=[[], *ROWS], default=[])
     reader.add_argument("--before", metavar="FOLDER")
+    reader.add_argument("--janus", metavar="SIZE", type=int, choices=(0, 1))
     reader.add_argument("--seconds", action="store_true")
     reader.add_argument("--beside", type=int, default=4, help="viewers that are measured beside one another (4)")
     arguments = reader.parse_args()
@@ -152,7 +188,9 @@ def main():
     print(f"| {' | '.join(HEADS)} |\n{'|---' * len(HEADS)}|")
     for at in range(0, len(names), arguments.beside):
         busy = os.getloadavg()[0]
-        for name, (viewer, figures) in measure(names[at:at + arguments.beside], arguments.before).items():
+        rows = {name: ROWS[name] for name in names[at:at + arguments.beside]}
+        found = measure(rows, arguments.before) if arguments.janus is None else measure_janus(rows, arguments.janus)
+        for name, (viewer, figures) in found.items():
             print(row(name, figures), flush=True)
             if arguments.seconds:
                 viewer.each_second(figures)

@@ -5,9 +5,12 @@
 #include <sys/param.h>
 
 enum {
-    INTERVAL = 10000,       /* us between two choices */
+    INTERVAL = 50000,       /* us between two choices, beside those after a report */
+    IN_TRIAL = 10000,       /* the same while a trial is filled */
+    TRIAL_ENDS = 200000,    /* us after its latest padding */
     KEYFRAME_WITHIN = 200,  /* ms: a keyframe of a larger size is to be through by then */
     LITTLE = 150,           /* ms: while more waits, of video the lowest temporal layer alone is sent, and no RED */
+    LOSSY = 20,             /* thousandths of the packets that are lost: see list_choices */
     AHEAD = 150             /* percent: the path is tried up to so much of the highest choice */
 };
 
@@ -44,14 +47,17 @@ static void add(list *to, peer *it, peer *from, int track, int temporal) {
                            .begin = begins ? publisher_keyframe(from, track) * 8 * 1000 / KEYFRAME_WITHIN : 0};
 }
 
-/* From the lowest to the highest. A larger size with a quarter of its frames is no choice: a person sees it stutter. The last one is
- * the highest again, with a rate to spare: the path is tried up to it. */
+/* From the lowest to the highest. A larger size with a quarter of its frames is no choice: a person sees it stutter. On a path that
+ * loses packets one with half of them is none either: a frame that waits for a retransmission is seen, too. The last choice is the
+ * highest again, with a rate to spare: the path is tried up to it. */
 static void list_choices(list *to, peer *it, peer *from) {
+    bool lossy = it->viewer[VIDEO].losses > LOSSY;
     to->len = 0;
     for (int temporal = 0; temporal < 2; temporal++) add(to, it, from, VIDEO, temporal);
     add(to, it, from, VIDEO, ALL_LAYERS);
     for (int track = VIDEO + 1; track <= last_track(from); track++) {
-        add(to, it, from, track, 1);
+        if (lossy) add(to, it, from, track - 1, ALL_LAYERS);
+        else add(to, it, from, track, 1);
         add(to, it, from, track, ALL_LAYERS);
     }
     to->layers[to->len] = to->layers[to->len - 1];
@@ -73,7 +79,8 @@ void path_choose(peer *it, peer *from, uint64_t now) {
     viewer_path *path = it->path;
     cpay_path_order_info order = {0};
     list all;
-    path->next_choice = now + INTERVAL;
+    uint64_t interval = path->filled && now - path->filled < TRIAL_ENDS ? IN_TRIAL : INTERVAL;
+    path->next_choice = (now / interval + 1) * interval; /* of all viewers at once */
     if (!from || !it->secure || path->unheard == 0) return; /* what is silent says nothing about the path */
     list_choices(&all, it, from);
     if (it->media[VIDEO].used && (all.rates[0].rate == 0 || !it->viewer[VIDEO].newest_len)) return;
@@ -86,6 +93,9 @@ void path_choose(peer *it, peer *from, uint64_t now) {
     uint64_t rate = all.rates[chosen < all.len - 1 ? chosen : chosen - 1].rate;
     bool late = is_late(path);
     viewer_goes_to(it, all.layers[chosen].track, late ? 0 : all.layers[chosen].temporal, !late && has_room_for_red(path, from, rate));
-    if (it->media[VIDEO].used) path_fill(it, order.padding);
-    path->deadline = 0;
+    if (it->media[VIDEO].used && order.padding > 0) {
+        path_fill(it, order.padding);
+        path->filled = now;
+    }
+    path->deadline = 0; /* the pace may be another one */
 }

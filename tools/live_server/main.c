@@ -16,7 +16,10 @@
 #include <time.h>
 #include <unistd.h>
 
-enum { TICK = 50 }; /* ms between two looks at all peers */
+enum {
+    TICK = 50,   /* ms between two looks at all peers */
+    TOGETHER = 2 /* ms: what is due for viewers within them leaves at once */
+};
 
 options the = {
     .address = "127.0.0.1", .folder = "recordings", .http = 8080, .udp = 8081, .peers = 1024, .bitrate = 2500000};
@@ -163,8 +166,11 @@ static struct timespec wait_until(uint64_t tick) {
     EACH_PEER (it)
         if (it->publisher) until = MIN(until, publisher_deadline(it));
     until = until < UINT64_MAX / 1000 ? until * 1000 : UINT64_MAX;
+    uint64_t viewers = UINT64_MAX;
     EACH_PEER (it)
-        if (it->viewer && it->secure) until = MIN(until, MIN(path_deadline(it), path_next_choice(it)));
+        if (it->viewer && it->secure && !it->ended) viewers = MIN(viewers, path_deadline(it));
+    if (viewers > now && viewers < UINT64_MAX) viewers = (viewers / (TOGETHER * 1000) + 1) * TOGETHER * 1000;
+    until = MIN(until, viewers);
     uint64_t wait = until > now ? until - now : 0;
     return (struct timespec){(time_t)(wait / 1000000), (long)(wait % 1000000) * 1000};
 }
@@ -172,10 +178,11 @@ static struct timespec wait_until(uint64_t tick) {
 /* What leaves for viewers now, and which layers they get. */
 static void serve_viewers(void) {
     uint64_t now = now_us();
+    peer *from = NULL;
     EACH_PEER (it) {
-        if (!it->viewer || !it->secure || it->ended) continue;
-        if (path_next_choice(it) <= now) path_tick(it, now);
-        if (path_deadline(it) <= now) path_send(it, now);
+        if (!it->viewer || !it->secure || it->ended || path_deadline(it) > now) continue;
+        if (!from || strcmp(from->name, it->name)) from = peer_publisher(it->name);
+        path_serve(it, from, now);
     }
 }
 

@@ -123,6 +123,12 @@ void path_fill(peer *it, uint32_t bytes) {
 
 /* ---- what leaves ---- */
 
+static void tick(peer *it, peer *from, uint64_t now) {
+    viewer_path *path = it->path;
+    if (path->follows && !path->heard && path->first_left && now - path->first_left > UNHEARD) give_up_feedback(it);
+    path_choose(it, from, now);
+}
+
 static void send_packet(peer *it, peer *from, const cpay_path_leaving *leaving, uint64_t now) {
     viewer_path *path = it->path;
     waiting one = waiting_of(leaving->packet.id);
@@ -135,29 +141,28 @@ static void send_packet(peer *it, peer *from, const cpay_path_leaving *leaving, 
     if (from) pass_left_out(it, from);
     if (size == 0) return;
     if (path->follows && cpay_number_datagram(it->transport_id, leaving->number, packet, size, out, MOST_DATAGRAM, &length)) return;
-    path->left_at[leaving->number % 1024] = (uint32_t)now;
+    size_t place = leaving->number % MOST_LEFT;
+    path->left[place].at = (uint32_t)now;
+    path->left[place].number = leaving->number;
+    path->left[place].again = one.number;
+    path->left[place].is_again = leaving->packet.kind == CPAY_PATH_RESENT && one.what == AGAIN && one.track == VIDEO;
     path->unheard++;
     if (!path->first_left) path->first_left = now;
     srtp_send(it, out, path->follows ? length : size, false);
 }
 
-void path_send(peer *it, uint64_t now) {
+void path_send(peer *it, peer *from, uint64_t now) {
     viewer_path *path = it->path;
     cpay_path_leaving leaving;
-    peer *from = peer_publisher(it->name);
     while (cpay_path_pop(&path->carries, now, &leaving) == CPAY_OK) send_packet(it, from, &leaving, now);
     note_deadline(path);
 }
 
-uint64_t path_deadline(const peer *it) { return it->path->deadline; }
+uint64_t path_deadline(const peer *it) { return it->path->deadline < it->path->next_choice ? it->path->deadline : it->path->next_choice; }
 
-uint64_t path_next_choice(const peer *it) { return it->path->next_choice; }
-
-void path_tick(peer *it, uint64_t now) {
-    viewer_path *path = it->path;
-    peer *from = peer_publisher(it->name);
-    if (path->follows && !path->heard && path->first_left && now - path->first_left > UNHEARD) give_up_feedback(it);
-    path_choose(it, from, now);
+void path_serve(peer *it, peer *from, uint64_t now) {
+    if (it->path->next_choice <= now) tick(it, from, now);
+    if (it->path->deadline <= now) path_send(it, from, now);
 }
 
 /* ---- what the viewer reports ---- */
@@ -172,21 +177,34 @@ bool path_may_resend(peer *it, uint16_t number, size_t size) {
 /* The round trip by the last packet that a feedback names. */
 static void measure_round_trip(viewer_path *path, const cpay_transport_feedback_info *info, uint64_t now) {
     uint16_t last = (uint16_t)(info->base + info->count - 1);
-    uint32_t passed = (uint32_t)now - path->left_at[last % 1024];
-    if (info->count > 0 && passed < 5000000) path->round_trip = passed;
+    uint32_t passed = (uint32_t)now - path->left[last % MOST_LEFT].at;
+    if (info->count > 0 && path->left[last % MOST_LEFT].number == last && passed < 5000000) path->round_trip = passed;
 }
 
-void path_hear(peer *it, const uint8_t *rtcp, size_t size) {
+/* A retransmission that is lost leaves again at once: the viewer would request it later than its report comes. */
+static void repeat_lost(peer *it, peer *from, const cpay_packet_arrival *packets, size_t count) {
+    viewer_path *path = it->path;
+    for (size_t i = 0; i < count && from; i++) {
+        size_t place = packets[i].number % MOST_LEFT;
+        if (packets[i].arrived || path->left[place].number != packets[i].number || !path->left[place].is_again) continue;
+        path->left[place].is_again = false;
+        viewer_resend(it, from, VIDEO, path->left[place].again);
+    }
+}
+
+void path_hear(peer *it, peer *from, const uint8_t *rtcp, size_t size) {
+    static cpay_packet_arrival packets[MOST_LEFT];
     viewer_path *path = it->path;
     cpay_transport_feedback_info info = {0};
     uint64_t now = now_us();
     if (!path->follows) return;
     for (size_t index = 0;; index++) {
-        cpay_status status = cpay_read_transport_feedback(rtcp, size, false, index, &info, NULL, 0);
+        cpay_status status = cpay_read_transport_feedback(rtcp, size, false, index, &info, packets, MOST_LEFT);
         if (status != CPAY_OK && status != CPAY_TOO_SMALL) return;
         measure_round_trip(path, &info, now);
         if (cpay_path_feedback(&path->carries, now, path->round_trip, rtcp, size, false, index)) return;
-        path->heard = now;
+        if (status == CPAY_OK) repeat_lost(it, from, packets, info.count);
+        path->heard = path->next_choice = now; /* a path that carries less is to be heeded at once */
         path->unheard = 0;
     }
 }

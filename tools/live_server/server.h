@@ -179,10 +179,9 @@ void viewer_stats(peer *it, FILE *to);
 void viewer_free(peer *it);
 
 /* path.c: the path to a viewer. Times are in microseconds. */
-void path_send(peer *it, uint64_t now); /* what may leave now */
-void path_tick(peer *it, uint64_t now); /* chooses layers */
+void path_send(peer *it, peer *from, uint64_t now); /* what may leave now */
+void path_serve(peer *it, peer *from, uint64_t now); /* the same, and layers are chosen when it is time */
 uint64_t path_deadline(const peer *it);
-uint64_t path_next_choice(const peer *it);
 
 /* rtcp.c: RTCP of viewers */
 typedef struct {

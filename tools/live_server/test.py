@@ -29,8 +29,8 @@ import threading
 import time
 import urllib.request
 
+from bandwidth import measure
 from browsers import Chromium, Failed, Firefox, Page, firefox, require, wait_for
-from relay import Narrow
 from servers import HERE, Server, call, free_port, publisher_of, real_time, viewer_of
 
 sys.path.append(str(HERE.parent / "chromium"))
@@ -195,7 +195,7 @@ def test_layers():
 
 
 def test_fits():
-    """With two layers a page gets the one that fits its window, and the small one where many packets are lost."""
+    """With two sizes a page gets the one that fits its window, and the one that a person chose."""
     with Server() as it:
         it.page("publish=camera&layers")
         wait_for("both layers", lambda: sum(stream["frames"] > 10 for stream in it.streams()) == 2)
@@ -210,28 +210,35 @@ def test_fits():
         for width, picture in ((1100, 640), (400, 320), (1100, 640)):
             window(width)
             gets(picture, f"in a window of {width}")
-        it.network(loss=30)
-        gets(320, "at 30 % loss")
-        it.network()
-        gets(640, "without loss again")
-    return "by the window and by losses"
+        for layer, picture in (("half", 320), ("full", 640)):
+            viewer.choose("layer", layer)
+            gets(picture, f"of the layer {layer}")
+        said = viewer.evaluate("document.getElementById('carries').textContent")
+        require(re.match(r"The path carries \d+ kbit/s: the large size is sent", said), said)
+    return f"by the window and by choice; {said!r}"
 
 
-def test_narrow(seconds=40):
-    """A viewer behind 300 kbit/s with a queue of 300 ms: what is resent does not fill its link, and it goes on with the small size."""
-    with Server() as it:
-        it.page("publish=camera&layers")
-        wait_for("both layers", lambda: sum(stream["frames"] > 10 for stream in it.streams()) == 2)
-        narrow = Narrow(300_000, 0.3)
-        viewer = viewer_of(it, script=narrow.to_server(it.udp))
-        shown, before = [], viewer.frames()
-        for _ in range(seconds // 5):
-            time.sleep(5)
-            shown, before = [*shown, viewer.frames() - before], viewer.frames()
-        video, freezes = it.streams("viewers")[0], viewer.statistic("watch")["freezeCount"]
-        narrow.stopped = True
-    figures = f"{shown} frames in each 5 s, {freezes} freezes, {video['resent']} of {video['packets']} packets resent, {video['refused']} requests refused"
-    require(min(shown[1:]) >= 25 and sum(shown[1:]) > 10 * (seconds - 5), figures)
+def seen(found, name):
+    """What a viewer behind a link saw, in words."""
+    it = found[name][1]
+    return (f"{it['frames']} frames, {it['freezes']} of them after more than 250 ms, at most {it['longest']:.0f} ms, queue {it['queue'][0]:.0f} ms, "
+            f"best choice {it['best']:.0f} % of the time, {it['switches']} switches, {it['resent']} resent")
+
+
+def test_narrow():
+    """Viewers behind 300 kbit/s with a queue of 300 ms, one of them with losses of 5 %: the picture goes on, and the queue stays short."""
+    found = measure({"whole": ((300,), 300, 0), "lossy": ((300,), 300, 5)})
+    figures = "; ".join(f"{name}: {seen(found, name)}" for name in found)
+    for name, (_, it) in found.items():
+        require(it["frames"] > 300 and it["longest"] < 600 and it["freezes"] <= 3 and it["queue"][0] < 100 and it["best"] >= 80, figures)
+    return figures
+
+
+def test_steps():
+    """A link of 3,000, 300 and 1,000 kbit/s, 12 s each: no freeze of 600 ms, a short queue, and the best choice most of the time."""
+    found = measure({"steps": ((3000, 300, 1000), 300, 0)}, step=12)
+    figures, it = seen(found, "steps"), found["steps"][1]
+    require(it["longest"] < 600 and it["freezes"] <= 2 and it["queue"][0] < 100 and it["best"] >= 60 and it["switches"] >= 3, figures)
     return figures
 
 
@@ -674,7 +681,7 @@ TESTS = {f"{codec}-{loss}": (lambda codec=codec, loss=loss: test_call(codec, los
 TESTS |= {f"firefox-{name}": (lambda words=words: test_firefox(*words)) for name, words in {
     "publishes": (Firefox, Chromium, "VP8", 0), "watches": (Chromium, Firefox, "VP8", 0), "VP8-5": (Firefox, Firefox, "VP8", 5),
     "VP9-2": (Firefox, Firefox, "VP9", 2), "AV1-2": (Firefox, Firefox, "AV1", 2)}.items()}
-TESTS |= {name: globals()[f"test_{name}"] for name in ("refusals", "sessions", "token", "reused", "full", "disk", "phone", "picture", "reordered", "viewers", "conference", "feedback", "layers", "fits", "narrow", "reload",
+TESTS |= {name: globals()[f"test_{name}"] for name in ("refusals", "sessions", "token", "reused", "full", "disk", "phone", "picture", "reordered", "viewers", "conference", "feedback", "layers", "fits", "narrow", "steps", "reload",
                                                       "left", "restart", "blocked", "taken", "camera", "elsewhere", "aiortc", "damaged", "hostile")}
 
 

@@ -241,7 +241,7 @@ bool viewers_forward(peer *from, int track, const uint8_t *datagram, size_t size
     EACH_PEER (it) {
         if (!it->viewer || strcmp(it->name, from->name)) continue;
         if (offer(it, from, track, &info, datagram)) offer_early(it, from, track, info.sequence_number);
-        if (path_deadline(it) == 0) path_send(it, now_us());
+        if (it->path->deadline == 0) path_send(it, from, now_us());
     }
     fresh.bytes = NULL;
     return true;
@@ -249,21 +249,32 @@ bool viewers_forward(peer *from, int track, const uint8_t *datagram, size_t size
 
 /* ---- RTCP of a viewer ---- */
 
-static void resend(peer *it, peer *from, int kind, uint16_t number) {
+void viewer_resend(peer *it, peer *from, int kind, uint16_t number) {
     outgoing *to = &it->viewer[kind];
     bool padding = filled_under(to, number); /* the packet that was left out is not to come in its place */
     waiting one = {.what = padding ? FILLED : AGAIN, .track = (uint8_t)kind, .number = number};
     size_t size = padding ? HEADER + 1 : write_again(it, from, &one, NULL, 0);
-    to->requested++;
     to->not_kept += size == 0;
     if (size == 0) return;
     if (path_may_resend(it, number, size)) path_push(it, CPAY_PATH_RESENT, one, size);
     else to->refused++;
 }
 
+/* The usual share of losses, by what was sent between two reports. */
+static void note_losses(outgoing *to) {
+    cpay_forwarder_counts_info counts = {0};
+    if (cpay_forwarder_counts(&to->forwarder, &counts) || counts.packets < to->sent_before + 20) return;
+    int64_t lost = (int64_t)to->reported.lost - to->lost_before, sent = (int64_t)(counts.packets - to->sent_before);
+    unsigned now = lost <= 0 ? 0 : lost >= sent ? 1000 : (unsigned)(1000 * lost / sent);
+    to->losses = (7 * to->losses + now) / 8;
+    to->sent_before = counts.packets;
+    to->lost_before = to->reported.lost;
+}
+
 /* What the viewer reports: losses, and the round trip by the sender report that it names (RFC 3550, section 6.4.1). */
 static void read_report(outgoing *to, const uint8_t *bytes, size_t size) {
     if (!rtcp_read_block(bytes, size, to->ssrc, &to->reported)) return;
+    note_losses(to);
     if (to->reported.last == 0 || to->reported.last != to->report_ntp) return;
     uint64_t passed = now_ms() - to->report_sent, waited = (uint64_t)to->reported.delay * 1000 / 65536;
     to->round_trip = passed > waited ? passed - waited : 0;
@@ -272,7 +283,7 @@ static void read_report(outgoing *to, const uint8_t *bytes, size_t size) {
 void viewer_take(peer *it, const uint8_t *bytes, size_t size) {
     uint16_t numbers[512];
     peer *from = peer_publisher(it->name);
-    path_hear(it, bytes, size);
+    path_hear(it, from, bytes, size);
     for (int kind = 0; kind < KINDS && from; kind++) {
         outgoing *to = &it->viewer[kind];
         size_t count = 0;
@@ -280,7 +291,8 @@ void viewer_take(peer *it, const uint8_t *bytes, size_t size) {
         bool keyframe = false;
         if (cpay_read_requests(bytes, size, to->ssrc, false, numbers, 512, &count, &keyframe)) return;
         read_report(to, bytes, size);
-        for (size_t i = 0; i < count && i < 512; i++) resend(it, from, kind, numbers[i]);
+        to->requested += count;
+        for (size_t i = 0; i < count && i < 512; i++) viewer_resend(it, from, kind, numbers[i]);
         to->keyframes_wanted += keyframe;
         if (keyframe) publisher_wants_keyframe(from, to->track);
     }

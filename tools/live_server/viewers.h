@@ -9,6 +9,7 @@ enum {
     HEADER = 12,       /* bytes of an RTP header without extension */
     MOST_CHOICES = 3 + 2 * (MOST_LAYERS - 1) + 1,
     MOST_FILLED = 64,  /* packets of padding that are kept for requests */
+    MOST_LEFT = 1024,  /* packets that left of which a report may come */
     MOST_ORDERED = 512 /* packets of video that wait for a viewer, those that are left out among them */
 };
 
@@ -38,6 +39,9 @@ struct outgoing {
     uint32_t report_ntp;   /* the middle 32 bits of its NTP time */
     report_block reported; /* by the viewer */
     uint64_t round_trip;   /* ms, by reports */
+    uint64_t sent_before;  /* packets that were sent until an earlier report */
+    int32_t lost_before;   /* packets that were lost until then */
+    unsigned losses;       /* thousandths of the packets: an eighth of it is the latest report */
     struct {
         uint64_t sent; /* ms */
         uint8_t bytes[HEADER + 1];
@@ -58,12 +62,18 @@ struct viewer_path {
     bool follows;                /* the viewer reports when each packet arrived */
     uint64_t deadline;           /* when a packet leaves next */
     uint64_t next_choice;        /* when layers are chosen next */
+    uint64_t filled;             /* when a trial was filled last; 0: never */
     uint64_t first_left, heard;  /* when the first packet left, and when the latest feedback came; 0: never */
     uint64_t unheard;            /* packets that left since then */
     uint64_t round_trip;         /* by feedback */
     uint64_t dropped, padding;   /* packets for which the queue had no room; bytes that filled trials */
     cpay_path_state_info state;  /* at the latest choice */
-    uint32_t left_at[1024];      /* when packets left, by their transport-wide numbers, modulo 2^32 */
+    struct {
+        uint32_t at;     /* when it left, modulo 2^32 */
+        uint16_t number; /* transport-wide */
+        uint16_t again;  /* with is_again: the number of the viewer's stream that it repeats */
+        bool is_again;   /* a retransmission of video: if it is lost, it leaves again without a request */
+    } left[MOST_LEFT];   /* the latest packets that left, by their numbers */
     waiting order[MOST_ORDERED]; /* of video, in a ring: what is left out keeps its place */
     size_t order_first, order_len;
     wishes wishes;
@@ -75,6 +85,7 @@ struct viewer_path {
 /* viewers.c */
 size_t viewer_write(peer *it, peer *from, const waiting *one, uint8_t *out, size_t room); /* 0: there is nothing to send */
 void viewer_leave_out(peer *it, peer *from, const waiting *one);
+void viewer_resend(peer *it, peer *from, int kind, uint16_t number);
 void viewer_goes_to(peer *it, int track, int temporal, bool red);
 
 /* path.c */
@@ -83,7 +94,7 @@ void path_push(peer *it, cpay_path_kind kind, waiting one, size_t size);
 void path_leave_out(peer *it, peer *from, waiting one); /* in its place among the packets of video */
 void path_remove_video(peer *it);
 bool path_may_resend(peer *it, uint16_t number, size_t size);
-void path_hear(peer *it, const uint8_t *rtcp, size_t size);
+void path_hear(peer *it, peer *from, const uint8_t *rtcp, size_t size);
 void path_fill(peer *it, uint32_t bytes);
 void path_free(peer *it);
 
