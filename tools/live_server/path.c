@@ -2,6 +2,7 @@
  * carries. The library decides when a packet leaves (cpay_path); a packet is written when it leaves. */
 #include "viewers.h"
 
+#include <libavutil/intreadwrite.h>
 #include <stdlib.h>
 #include <string.h>
 
@@ -11,6 +12,7 @@ enum {
     OPEN = 100000000,       /* bits per second: the pace for a viewer that reports nothing */
     UNHEARD = 2000000,      /* us after which a viewer counts as one that reports nothing */
     FIRST_ROUND_TRIP = 50000, /* us: before the first report */
+    OVERTAKEN = 2,          /* packets that may overtake one */
     ROUND_TRIP_MARGIN = 10000 /* us: a report comes up to so much later */
 };
 
@@ -144,8 +146,8 @@ static void send_packet(peer *it, peer *from, const cpay_path_leaving *leaving, 
     size_t place = leaving->number % MOST_LEFT;
     path->left[place].at = (uint32_t)now;
     path->left[place].number = leaving->number;
-    path->left[place].again = one.number;
-    path->left[place].is_again = leaving->packet.kind == CPAY_PATH_RESENT && one.what == AGAIN && one.track == VIDEO;
+    path->left[place].repeats = one.what == AGAIN && leaving->packet.kind == CPAY_PATH_RESENT ? one.number : AV_RB16(out + 2);
+    path->left[place].is_video = one.track != AUDIO && one.what != FILLED && leaving->packet.kind != CPAY_PATH_PADDING;
     path->unheard++;
     if (!path->first_left) path->first_left = now;
     srtp_send(it, out, path->follows ? length : size, false);
@@ -181,14 +183,17 @@ static void measure_round_trip(viewer_path *path, const cpay_transport_feedback_
     if (info->count > 0 && path->left[last % MOST_LEFT].number == last && passed < 5000000) path->round_trip = passed;
 }
 
-/* A retransmission that is lost leaves again at once: the viewer would request it later than its report comes. */
+/* A packet of video that is lost leaves again at once. The viewer requests it only when the next packet of video comes, and a
+ * retransmission later than its report. Some packets behind it arrived, so it was not overtaken. */
 static void repeat_lost(peer *it, peer *from, const cpay_packet_arrival *packets, size_t count) {
     viewer_path *path = it->path;
-    for (size_t i = 0; i < count && from; i++) {
+    unsigned arrived = 0;
+    for (size_t i = count; i-- > 0 && from;) {
         size_t place = packets[i].number % MOST_LEFT;
-        if (packets[i].arrived || path->left[place].number != packets[i].number || !path->left[place].is_again) continue;
-        path->left[place].is_again = false;
-        viewer_resend(it, from, VIDEO, path->left[place].again);
+        arrived += packets[i].arrived;
+        if (packets[i].arrived || arrived < OVERTAKEN || path->left[place].number != packets[i].number || !path->left[place].is_video) continue;
+        path->left[place].is_video = false;
+        viewer_resend(it, from, VIDEO, path->left[place].repeats);
     }
 }
 

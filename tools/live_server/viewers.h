@@ -71,8 +71,8 @@ struct viewer_path {
     struct {
         uint32_t at;     /* when it left, modulo 2^32 */
         uint16_t number; /* transport-wide */
-        uint16_t again;  /* with is_again: the number of the viewer's stream that it repeats */
-        bool is_again;   /* a retransmission of video: if it is lost, it leaves again without a request */
+        uint16_t repeats; /* the number in the viewer's stream, with a retransmission the one that it repeats */
+        bool is_video;    /* if it is lost, it leaves again without a request */
     } left[MOST_LEFT];   /* the latest packets that left, by their numbers */
     waiting order[MOST_ORDERED]; /* of video, in a ring: what is left out keeps its place */
     size_t order_first, order_len;
