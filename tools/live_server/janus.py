@@ -101,17 +101,22 @@ class Janus:
         page.evaluate(f"c.setRemoteDescription({json.dumps(answer)})")
 
     def watch(self, page, link, size):
-        """A page watches over a link: the small size (0), or the large one (1)."""
+        """A page watches over a link: the small size (0), or the large one (1), which is the second one of the description and so the lowest
+        substream of janus."""
         handle = Handle(self.port)
         offer = handle.say("join", room=1, ptype="subscriber", streams=[{"feed": self.feed}])["jsep"]["sdp"]
         host, port = next((host, int(port)) for host, port in CANDIDATE.findall(offer) if ":" not in host)
+        link.ports[1].close()
+        link.ports[1] = socket.socket(socket.AF_INET, socket.SOCK_DGRAM)
+        link.ports[1].bind((host, 0))  # janus does not use 127.0.0.1
         link.addresses[1] = (host, port)
         link.start()
         mine = f"a=candidate:1 1 udp 2130706431 127.0.0.1 {link.ports[0].getsockname()[1]} typ host\r\n"
         offer = re.sub(r"(a=ice-ufrag)", mine + r"\1", CANDIDATE.sub("", offer))
-        handle.say("start", jsep={"type": "answer", "sdp": page.evaluate(WATCHES.replace("OFFER", json.dumps(offer)))})
+        answer = CANDIDATE.sub("", page.evaluate(WATCHES.replace("OFFER", json.dumps(offer))))  # janus learns the address of the relay alone
+        handle.say("start", jsep={"type": "answer", "sdp": answer})
         mid = re.search(r"m=video.*?a=mid:(\S+)", offer, re.S)[1]
-        handle.say("configure", streams=[{"mid": mid, "substream": size, "temporal": 2}])
+        handle.say("configure", streams=[{"mid": mid, "substream": 1 - size, "temporal": 2}])
 
     def __exit__(self, *_):
         self.process.terminate()
