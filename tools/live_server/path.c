@@ -139,10 +139,11 @@ static void send_packet(peer *it, peer *from, const cpay_path_leaving *leaving, 
         path->order_first = (path->order_first + 1) % MOST_ORDERED;
         path->order_len--;
     }
-    size_t size = from ? viewer_write(it, from, &one, path->follows ? packet : out, MOST_DATAGRAM) : 0, length = 0;
+    bool numbers = path->follows && one.what != FILLED; /* padding leaves again as it was: SRTP has one nonce for it */
+    size_t size = from ? viewer_write(it, from, &one, numbers ? packet : out, MOST_DATAGRAM) : 0, length = 0;
     if (from) pass_left_out(it, from);
     if (size == 0) return;
-    if (path->follows && cpay_number_datagram(it->transport_id, leaving->number, packet, size, out, MOST_DATAGRAM, &length)) return;
+    if (numbers && cpay_number_datagram(it->transport_id, leaving->number, packet, size, out, MOST_DATAGRAM, &length)) return;
     size_t place = leaving->number % MOST_LEFT;
     path->left[place].at = (uint32_t)now;
     path->left[place].number = leaving->number;
@@ -150,7 +151,7 @@ static void send_packet(peer *it, peer *from, const cpay_path_leaving *leaving, 
     path->left[place].is_video = one.track != AUDIO && one.what != FILLED && leaving->packet.kind != CPAY_PATH_PADDING;
     path->unheard++;
     if (!path->first_left) path->first_left = now;
-    srtp_send(it, out, path->follows ? length : size, false);
+    srtp_send(it, out, numbers ? length : size, false);
 }
 
 void path_send(peer *it, peer *from, uint64_t now) {

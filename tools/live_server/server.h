@@ -44,6 +44,7 @@ typedef struct {
 typedef struct publisher publisher; /* receive.c */
 typedef struct outgoing outgoing;   /* viewers.c */
 typedef struct viewer_path viewer_path; /* path.c */
+typedef struct protection protection;   /* protect.c */
 
 /* A browser: a publisher or a viewer. */
 typedef struct {
@@ -62,6 +63,7 @@ typedef struct {
     uint64_t began, heard; /* ms: when its offer came, and its latest STUN request or packet of SRTP */
     SSL *ssl;
     srtp_t in, out;
+    protection *quick; /* of what leaves, in place of `out`; NULL: the profile is another one */
     agreed media[KINDS];
     char layers[MOST_LAYERS][MOST_NAME]; /* the RIDs of simulcast, in the order of the offer; 0 or 1: no simulcast */
     int layers_len;
@@ -146,6 +148,11 @@ void dtls_take(peer *it, const struct sockaddr_in *from, const uint8_t *bytes, s
 void dtls_tick(peer *it);
 void dtls_end(peer *it);
 void srtp_send(peer *to, uint8_t *bytes, size_t size, bool rtcp); /* `bytes` are those of network_room */
+
+/* protect.c: SRTP of what leaves */
+protection *protect_new(const uint8_t *key, const uint8_t *salt); /* NULL: out of memory */
+bool protect_packet(protection *it, uint8_t *bytes, int *size);   /* behind the packet is room for the tag of 16 bytes */
+void protect_free(protection *it);
 
 /* receive.c: publishers */
 typedef struct {

@@ -44,6 +44,8 @@ static bool begin_stream(outgoing *to, const agreed *media) {
 
 /* A viewer begins with the smallest size, unless it reports nothing about its path. */
 const char *viewer_begin(peer *it, peer *of) {
+    const agreed *video = &it->media[VIDEO];
+    if (video->used && !video->rtx_payload_type) it->transport_id = 0; /* a packet that leaves again has its own bytes: see path.c */
     it->viewer = of ? calloc(KINDS, sizeof *it->viewer) : NULL;
     if (!it->viewer || !path_begin(it)) return "Out of memory.\n";
     for (int kind = 0; kind < KINDS; kind++) {
@@ -292,7 +294,7 @@ void viewer_take(peer *it, const uint8_t *bytes, size_t size) {
         if (cpay_read_requests(bytes, size, to->ssrc, false, numbers, 512, &count, &keyframe)) return;
         read_report(to, bytes, size);
         to->requested += count;
-        for (size_t i = 0; i < count && i < 512; i++) viewer_resend(it, from, kind, numbers[i]);
+        for (size_t i = 0; kind == VIDEO && i < count && i < 512; i++) viewer_resend(it, from, kind, numbers[i]);
         to->keyframes_wanted += keyframe;
         if (keyframe) publisher_wants_keyframe(from, to->track);
     }
