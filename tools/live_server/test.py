@@ -182,6 +182,7 @@ def test_layers():
             wait_for(layer, lambda: viewer.statistic("watch").get("frameWidth") == width, 10)
             widths.append(round(1000 * (time.monotonic() - began)))
             time.sleep(1.5)
+        wait_for("path that carries all frames", lambda: it.streams("viewers")[0]["temporal"] >= 2)
         for temporal in ("T3", "T1", "T0", "T3"):
             viewer.choose("frames", temporal)
             time.sleep(1)
@@ -213,8 +214,8 @@ def test_fits():
         for layer, picture in (("half", 320), ("full", 640)):
             viewer.choose("layer", layer)
             gets(picture, f"of the layer {layer}")
-        said = viewer.evaluate("document.getElementById('carries').textContent")
-        require(re.match(r"The path carries \d+ kbit/s: the large size is sent", said), said)
+        words = "document.getElementById('carries').textContent"
+        said = wait_for("sentence about the path", lambda: re.match(r"The path carries \d+ kbit/s: the large size is sent", viewer.evaluate(words)), 5)[0]
     return f"by the window and by choice; {said!r}"
 
 
@@ -371,6 +372,14 @@ def test_reused():
         require(len(it.stats()["publishers"]) == 3, "all three are in the table")
     require(max(took) < 0.9, f"handshakes took {took} s")
     return f"three handshakes from one port, each within {max(took)} s"
+
+
+def test_protect():
+    """What leaves is encrypted as libsrtp does it: numbers that come to 0 again, come late or come twice."""
+    subprocess.run(["make", "-s", "protect_test"], cwd=HERE, check=True)
+    ran = subprocess.run([HERE / "protect_test"], capture_output=True, text=True)
+    require(ran.returncode == 0, ran.stdout + ran.stderr)
+    return ran.stdout.strip()
 
 
 def test_full():
@@ -681,7 +690,7 @@ TESTS = {f"{codec}-{loss}": (lambda codec=codec, loss=loss: test_call(codec, los
 TESTS |= {f"firefox-{name}": (lambda words=words: test_firefox(*words)) for name, words in {
     "publishes": (Firefox, Chromium, "VP8", 0), "watches": (Chromium, Firefox, "VP8", 0), "VP8-5": (Firefox, Firefox, "VP8", 5),
     "VP9-2": (Firefox, Firefox, "VP9", 2), "AV1-2": (Firefox, Firefox, "AV1", 2)}.items()}
-TESTS |= {name: globals()[f"test_{name}"] for name in ("refusals", "sessions", "token", "reused", "full", "disk", "phone", "picture", "reordered", "viewers", "conference", "feedback", "layers", "fits", "narrow", "steps", "reload",
+TESTS |= {name: globals()[f"test_{name}"] for name in ("refusals", "sessions", "token", "reused", "full", "protect", "disk", "phone", "picture", "reordered", "viewers", "conference", "feedback", "layers", "fits", "narrow", "steps", "reload",
                                                       "left", "restart", "blocked", "taken", "camera", "elsewhere", "aiortc", "damaged", "hostile")}
 
 
