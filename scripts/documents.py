@@ -132,6 +132,7 @@ RUN_ELSEWHERE = {
     "./install.sh": ("scripts/test.sh", "tools/rtp_record/install.sh"),
     "./rtp_record": ("scripts/test.sh", "runs tools/rtp_record/test.sh"),
     "./live_server": ("tools/live_server/test.py", '"live_server"'),
+    "./bandwidth.py": ("tools/live_server/test.py", "from bandwidth import measure"),
     "make -C tools/gstreamer": ("scripts/test.sh", "make -s -C tools/gstreamer"),
     "tools/gstreamer/install.sh": ("scripts/test.sh", "tools/gstreamer/install.sh"),
     "export GST_PLUGIN_PATH": ("tools/gstreamer/test.sh", "export GST_PLUGIN_PATH"),

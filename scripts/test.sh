@@ -166,7 +166,7 @@ if pkg-config --exists openssl libsrtp2 libmicrohttpd libavformat libavcodec lib
     runs make -s -C tools/live_server all
     if command -v chromium >/dev/null && command -v ffmpeg >/dev/null; then
         # Some of its tests; `make -C tools/live_server check` has all.
-        runs tools/live_server/test.py VP8-0 VP8-5 refusals sessions token
+        runs tools/live_server/test.py VP8-0 VP8-5 refusals sessions token reused full protect narrow steps
     else
         echo "skipped tools/live_server/test.py: there is no chromium or no ffmpeg"
     fi

@@ -86,7 +86,7 @@ static void write_section(FILE *to, const peer *it, const cpay_sdp_media *media)
     fprintf(to, "a=%s\r\n", it->publisher ? "recvonly" : "sendonly");
     if (media->receiver_rtt) fputs("a=rtcp-xr:rcvr-rtt=all\r\n", to);
     write_formats(to, media, it, of);
-    if (it->publisher && it->transport_id && media->transport_cc_id)
+    if (it->transport_id && media->transport_cc_id)
         fprintf(to, "a=extmap:%u " TRANSPORT_WIDE "\r\na=rtcp-fb:%u transport-cc\r\n", media->transport_cc_id, of->payload_type);
     if (!it->publisher) write_sources(to, it, of);
     else if (of == &it->media[VIDEO]) write_layers(to, it, media);

@@ -111,11 +111,13 @@ static bool finish(peer *it) {
     srtp_profile_t profile = (srtp_profile_t)agreed->id; /* libsrtp2 has the numbers of RFC 5764 and RFC 7714 too */
     size_t key = srtp_profile_get_master_key_length(profile), salt = srtp_profile_get_master_salt_length(profile);
     if (SSL_export_keying_material(it->ssl, bytes, 2 * (key + salt), "EXTRACTOR-dtls_srtp", 19, NULL, 0, 0) != 1) return false;
+    bool quick = profile == srtp_profile_aead_aes_128_gcm;
+    if (quick && !(it->quick = protect_new(bytes + key, bytes + 2 * key + salt))) return false;
     return use_keys(&it->in, profile, bytes, bytes + 2 * key, ssrc_any_inbound) &&
            use_keys(&it->out, profile, bytes + key, bytes + 2 * key + salt, ssrc_any_outbound);
 }
 
-void dtls_take(peer *it, const uint8_t *bytes, size_t size) {
+void dtls_take(peer *it, const struct sockaddr_in *from, const uint8_t *bytes, size_t size) {
     char none[1];
     if (it->ended || (!it->ssl && !begin(it))) return;
     (void)BIO_reset(SSL_get_rbio(it->ssl)); /* what is left of the datagram before */
@@ -127,7 +129,10 @@ void dtls_take(peer *it, const uint8_t *bytes, size_t size) {
         it->secure = finish(it);
         it->ended = !it->secure;
         peer_says(it, it->secure ? SSL_get_selected_srtp_profile(it->ssl)->name : "not the certificate of its offer, or no SRTP");
-        if (it->secure) peer_secured(it);
+        if (it->secure) {
+            peer_owns(it, from); /* whoever ended a handshake is there */
+            peer_secured(it);
+        }
     }
     send_records(it);
 }
@@ -147,12 +152,15 @@ void dtls_end(peer *it) {
     SSL_free(it->ssl);
     if (it->in) srtp_dealloc(it->in);
     if (it->out) srtp_dealloc(it->out);
+    protect_free(it->quick);
     network_flush();
 }
 
 void srtp_send(peer *to, uint8_t *bytes, size_t size, bool rtcp) {
     int length = (int)size;
     if (!to->secure) return;
-    if ((rtcp ? srtp_protect_rtcp : srtp_protect)(to->out, bytes, &length) != srtp_err_status_ok) return;
+    bool quick = to->quick && !rtcp;
+    if (quick && !protect_packet(to->quick, bytes, &length)) return;
+    if (!quick && (rtcp ? srtp_protect_rtcp : srtp_protect)(to->out, bytes, &length) != srtp_err_status_ok) return;
     if (network_passes(true, &to->at, bytes, (size_t)length)) network_send(&to->at, (size_t)length);
 }

@@ -14,8 +14,8 @@
 #include <stdlib.h>
 #include <string.h>
 
-enum { MOST_BODY = 32 << 10, MOST_STATS = 512 << 10, MOST_PAGE = 128 << 10 };
-enum { CONNECTIONS = 256, CONNECTION_BYTES = 16 << 10, CONNECTION_SECONDS = 10 };
+enum { MOST_BODY = 32 << 10, MOST_PAGE = 128 << 10 };
+enum { CONNECTIONS = 512, CONNECTION_BYTES = 16 << 10, CONNECTION_SECONDS = 10 };
 
 static struct MHD_Daemon *server;
 
@@ -108,11 +108,14 @@ static enum MHD_Result change_network(const request *from) {
 }
 
 static enum MHD_Result show_stats(const request *from) {
-    static char bytes[MOST_STATS + 1]; /* with a 0 at the end */
-    FILE *to = fmemopen(bytes, MOST_STATS, "w");
+    char *bytes = NULL;
+    size_t size = 0;
+    FILE *to = open_memstream(&bytes, &size);
     if (to) stats(to);
-    if (!to || fclose(to)) return say(from, MHD_HTTP_INTERNAL_SERVER_ERROR, "Too much to show.\n");
-    return reply(from, MHD_HTTP_OK, "application/json", bytes, NULL);
+    if (!to || fclose(to)) return say(from, MHD_HTTP_INTERNAL_SERVER_ERROR, "Out of memory.\n");
+    enum MHD_Result result = reply(from, MHD_HTTP_OK, "application/json", bytes, NULL);
+    free(bytes);
+    return result;
 }
 
 static enum MHD_Result show_page(const request *from) {

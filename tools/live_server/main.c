@@ -16,10 +16,13 @@
 #include <time.h>
 #include <unistd.h>
 
-enum { TICK = 50 }; /* ms between two looks at all peers */
+enum {
+    TICK = 50,   /* ms between two looks at all peers */
+    TOGETHER = 2 /* ms: what is due for viewers within them leaves at once */
+};
 
 options the = {
-    .address = "127.0.0.1", .folder = "recordings", .http = 8080, .udp = 8081, .bitrate = 2500000};
+    .address = "127.0.0.1", .folder = "recordings", .http = 8080, .udp = 8081, .peers = 1024, .bitrate = 2500000};
 static volatile sig_atomic_t ended;
 
 static const struct argp_option names[] = {
@@ -27,6 +30,7 @@ static const struct argp_option names[] = {
     {"http", 'h', "N", 0, "port of the page (8080)", 0},
     {"udp", 'u', "N", 0, "port of the media (8081)", 0},
     {"candidate", 'c', "A", 0, "address under which browsers reach the UDP port; up to 4 (those of the interfaces)", 0},
+    {"peers", 'n', "N", 0, "at most N browsers at once (1024)", 0},
     {"folder", 'f', "F", 0, "folder of the recordings (recordings)", 0},
     {"page", 'p', "F", 0, "file of the page (page.html here, or beside the program)", 0},
     {"token", 't', "WORD", 0, "who publishes, watches or changes something must know this word", 0},
@@ -79,6 +83,7 @@ static error_t read_option(int option, char *value, struct argp_state *state) {
     case 'h': the.http = (uint16_t)number_of(value, 65535); break;
     case 'u': the.udp = (uint16_t)number_of(value, 65535); break;
     case 'c': add_candidate(value); break;
+    case 'n': the.peers = (unsigned)number_of(value, MOST_PEERS); break;
     case 'f': the.folder = value; break;
     case 'p': the.page = value; break;
     case 't': the.token = value; break;
@@ -121,7 +126,7 @@ static void take(const struct sockaddr_in *from, uint8_t *bytes, size_t size) {
     if (size == 0 || ice_take(from, bytes, size)) return;
     peer *it = peer_at(from);
     if (!it) return;
-    if (bytes[0] >= 20 && bytes[0] < 64) dtls_take(it, bytes, size);
+    if (bytes[0] >= 20 && bytes[0] < 64) dtls_take(peer_handshaking_at(from), from, bytes, size);
     else if (bytes[0] >= 128 && bytes[0] < 192 && network_passes(false, from, bytes, size)) take_media(from, bytes, size);
 }
 
@@ -150,16 +155,35 @@ static void start(void) {
     find_page();
     find_candidates();
     if (the.candidates_len == 0) add_candidate(the.address);
+    peers_start();
     dtls_start();
     network_start();
 }
 
-/* How long nothing is due, in ms. */
-static int wait_until(uint64_t tick) {
-    uint64_t now = now_ms(), http = http_deadline(now), network = network_deadline(), until = MIN(tick, MIN(http, network));
+/* How long nothing is due. */
+static struct timespec wait_until(uint64_t tick) {
+    uint64_t now = now_us(), http = http_deadline(now / 1000), until = MIN(tick, MIN(http, network_deadline()));
     EACH_PEER (it)
         if (it->publisher) until = MIN(until, publisher_deadline(it));
-    return until > now ? (int)(until - now) : 0;
+    until = until < UINT64_MAX / 1000 ? until * 1000 : UINT64_MAX;
+    uint64_t viewers = UINT64_MAX;
+    EACH_PEER (it)
+        if (it->viewer && it->secure && !it->ended) viewers = MIN(viewers, path_deadline(it));
+    if (viewers > now && viewers < UINT64_MAX) viewers = (viewers / (TOGETHER * 1000) + 1) * TOGETHER * 1000;
+    until = MIN(until, viewers);
+    uint64_t wait = until > now ? until - now : 0;
+    return (struct timespec){(time_t)(wait / 1000000), (long)(wait % 1000000) * 1000};
+}
+
+/* What leaves for viewers now, and which layers they get. */
+static void serve_viewers(void) {
+    uint64_t now = now_us();
+    peer *from = NULL;
+    EACH_PEER (it) {
+        if (!it->viewer || !it->secure || it->ended || path_deadline(it) > now) continue;
+        if (!from || strcmp(from->name, it->name)) from = peer_publisher(it->name);
+        path_serve(it, from, now);
+    }
 }
 
 int main(int argc, char **argv) {
@@ -173,7 +197,8 @@ int main(int argc, char **argv) {
     printf("http://%s:%u\n", the.address, the.http);
     fflush(stdout);
     while (!ended) {
-        if (poll(ports, 2, wait_until(tick)) > 0 && ports[0].revents) network_receive(take);
+        struct timespec wait = wait_until(tick);
+        if (ppoll(ports, 2, &wait, NULL) > 0 && ports[0].revents) network_receive(take);
         network_deliver(now_ms());
         http_run();
         EACH_PEER (it)
@@ -182,6 +207,7 @@ int main(int argc, char **argv) {
             peers_tick(now_ms());
             tick = now_ms() + TICK;
         }
+        serve_viewers();
         network_flush();
     }
     EACH_PEER (it) peer_free(it);

@@ -4,6 +4,7 @@
 
 #include <arpa/inet.h>
 #include <errno.h>
+#include <netinet/udp.h>
 #include <stdlib.h>
 #include <string.h>
 #include <sys/param.h>
@@ -14,6 +15,7 @@ enum {
     BATCH = 64,          /* datagrams a call of the system */
     ROUNDS = 16,         /* such calls, then others are served */
     MOST_DELAYED = 8192, /* datagrams; more are lost */
+    MOST_CUT = 60000,    /* bytes that are cut into datagrams */
     OVERTAKEN = 30       /* ms that a datagram is behind its place */
 };
 
@@ -33,8 +35,14 @@ uint64_t network_dropped;
 static uint8_t out_bytes[BATCH][MOST_DATAGRAM + SRTP_ROOM];
 static struct iovec out_parts[BATCH];
 static struct sockaddr_in out_to[BATCH];
-static struct mmsghdr out_heads[BATCH];
 static unsigned out_len;
+static bool cuts = true; /* the system cuts datagrams of one size out of a large one (UDP_SEGMENT) */
+
+/* What says how large they are. */
+typedef union {
+    struct cmsghdr head;
+    uint8_t bytes[CMSG_SPACE(sizeof(uint16_t))];
+} segment_size;
 
 /* Two queues of what is delayed: datagrams in their places, and those that others overtake. */
 static STAILQ_HEAD(, delayed) queues[2] = {STAILQ_HEAD_INITIALIZER(queues[0]), STAILQ_HEAD_INITIALIZER(queues[1])};
@@ -56,16 +64,52 @@ uint8_t *network_room(void) {
 }
 
 void network_send(const struct sockaddr_in *to, size_t size) {
-    unsigned i = out_len++;
-    out_to[i] = *to;
-    out_parts[i] = (struct iovec){out_bytes[i], size};
-    out_heads[i] = (struct mmsghdr){.msg_hdr = {&out_to[i], sizeof out_to[i], &out_parts[i], 1, NULL, 0, 0}};
+    out_to[out_len] = *to;
+    out_parts[out_len] = (struct iovec){out_bytes[out_len], size};
+    out_len++;
+}
+
+/* How many datagrams from this place on the system cuts out of one: to one address, all of one size, and the last at most of it. */
+static unsigned segments_at(unsigned at) {
+    size_t size = out_parts[at].iov_len, all = size;
+    unsigned count = 1;
+    if (!cuts) return 1;
+    for (; at + count < out_len; count++) {
+        const struct sockaddr_in *next = &out_to[at + count];
+        size_t more = out_parts[at + count].iov_len;
+        bool fits = more <= size && out_parts[at + count - 1].iov_len == size && all + more <= MOST_CUT;
+        if (!fits || next->sin_port != out_to[at].sin_port || next->sin_addr.s_addr != out_to[at].sin_addr.s_addr) break;
+        all += more;
+    }
+    return count;
+}
+
+static struct mmsghdr head_at(unsigned at, unsigned count, segment_size *room) {
+    struct mmsghdr head = {.msg_hdr = {&out_to[at], sizeof out_to[at], &out_parts[at], count, NULL, 0, 0}};
+    if (count == 1) return head;
+    *room = (segment_size){.head = {.cmsg_len = CMSG_LEN(sizeof(uint16_t)), .cmsg_level = SOL_UDP, .cmsg_type = UDP_SEGMENT}};
+    *(uint16_t *)CMSG_DATA(&room->head) = (uint16_t)out_parts[at].iov_len;
+    head.msg_hdr.msg_control = room->bytes;
+    head.msg_hdr.msg_controllen = sizeof room->bytes;
+    return head;
 }
 
 void network_flush(void) {
+    static struct mmsghdr heads[BATCH];
+    static segment_size rooms[BATCH];
     for (unsigned done = 0; done < out_len;) {
-        int sent = sendmmsg(network_port, out_heads + done, out_len - done, MSG_DONTWAIT);
-        done += sent > 0 ? (unsigned)sent : 1; /* a datagram that the system refuses is lost */
+        unsigned count = 0, firsts[BATCH + 1];
+        for (unsigned at = done; at < out_len; count++) {
+            unsigned segments = segments_at(at);
+            heads[count] = head_at(at, segments, &rooms[count]);
+            firsts[count] = at;
+            at += segments;
+        }
+        firsts[count] = out_len;
+        int sent = sendmmsg(network_port, heads, count, MSG_DONTWAIT);
+        bool refused = sent < 0 && heads[0].msg_hdr.msg_iovlen > 1 && (errno == EIO || errno == EINVAL || errno == EOPNOTSUPP);
+        if (refused) cuts = false; /* each datagram alone from now on */
+        else done = firsts[sent > 0 ? sent : 1]; /* what the system refuses is lost */
     }
     out_len = 0;
 }

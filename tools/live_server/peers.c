@@ -2,9 +2,10 @@
 #include "server.h"
 
 #include <openssl/rand.h>
+#include <stdlib.h>
 #include <string.h>
 
-peer peers[MOST_PEERS];
+peer *peers, *peers_end;
 
 /* The peer that was seen last at an address with this port. It is only a guess, and compared. */
 static peer *by_port[65536];
@@ -33,21 +34,36 @@ bool is_name(const char *name) {
     return size > 0 && size < MOST_NAME && name[size] == 0;
 }
 
+void peers_start(void) {
+    peers = peers_end = calloc(the.peers, sizeof *peers);
+    if (!peers) give_up("the table of peers (--peers)", "out of memory");
+}
+
+/* A place in the table. If it is full, the place of a peer that is silent: its browser may have ended without a word. */
+static peer *free_place(void) {
+    peer *silent = NULL;
+    for (peer *it = peers; it < peers + the.peers; it++) {
+        if (!it->used) return it;
+        if (peer_is_silent(it) && (!silent || it->heard < silent->heard)) silent = it;
+    }
+    if (silent) peer_free(silent);
+    return silent;
+}
+
 peer *peer_new(const char *name, bool publishes) {
     static uint64_t latest;
     int publishers = 0;
     EACH_PEER (it) publishers += it->publisher != NULL;
     if (publishes && publishers == MOST_PUBLISHERS) return NULL;
-    for (peer *it = peers; it < peers + MOST_PEERS; it++) {
-        if (it->used) continue;
-        *it = (peer){.used = true, .number = ++latest, .began = now_ms(), .heard = now_ms()};
-        write_secret(it->ufrag, sizeof it->ufrag);
-        write_secret(it->password, sizeof it->password);
-        write_secret(it->id, sizeof it->id);
-        snprintf(it->name, sizeof it->name, "%s", name);
-        return it;
-    }
-    return NULL;
+    peer *it = free_place();
+    if (!it) return NULL;
+    *it = (peer){.used = true, .number = ++latest, .began = now_ms(), .heard = now_ms()};
+    if (it >= peers_end) peers_end = it + 1;
+    write_secret(it->ufrag, sizeof it->ufrag);
+    write_secret(it->password, sizeof it->password);
+    write_secret(it->id, sizeof it->id);
+    snprintf(it->name, sizeof it->name, "%s", name);
+    return it;
 }
 
 void peer_says(const peer *it, const char *what) {
@@ -83,6 +99,7 @@ void peer_free(peer *it) {
     if (it->viewer) viewer_free(it);
     dtls_end(it);
     *it = (peer){.used = false};
+    while (peers_end > peers && !peers_end[-1].used) peers_end--;
 }
 
 peer *peer_publisher(const char *name) {
@@ -113,11 +130,31 @@ peer *peer_at(const struct sockaddr_in *from) {
     return NULL;
 }
 
-/* A browser checks several addresses, and sends media from any of them. The one that it nominated last gets the media. */
+/* A system may give the port of a browser that ended to the next one, while the table still has the first. Its handshake counts. */
+peer *peer_handshaking_at(const struct sockaddr_in *from) {
+    peer *it = peer_at(from);
+    if (!it || !it->secure) return it;
+    EACH_PEER (other)
+        if (!other->secure && is_at(other, from)) return other;
+    return it;
+}
+
+void peer_owns(peer *it, const struct sockaddr_in *at) {
+    EACH_PEER (other)
+        for (unsigned i = 0; other != it && i < other->known_len && i < MOST_ADDRESSES; i++)
+            if (other->known[i].sin_port == at->sin_port && other->known[i].sin_addr.s_addr == at->sin_addr.s_addr)
+                other->known[i] = (struct sockaddr_in){0};
+    by_port[ntohs(at->sin_port)] = it;
+}
+
+/* A browser checks several addresses, and sends media from any of them. The one that it nominated last gets the media. An address of
+ * a peer that is silent is of the one that speaks. */
 void peer_seen(peer *it, const struct sockaddr_in *at, bool nominated) {
     it->heard = now_ms();
     if (nominated || it->known_len == 0) it->at = *at;
     if (!is_at(it, at)) it->known[it->known_len++ % MOST_ADDRESSES] = *at;
+    peer *owner = peer_at(at);
+    if (owner != it && (owner->ended || peer_is_silent(owner))) peer_owns(it, at);
 }
 
 static bool has_other_codec(const peer *viewer, const peer *of) {

@@ -13,8 +13,20 @@ enum {
     MOST_MISSING = 256,                 /* numbers that are requested: their NACK fits a datagram */
     MOST_KEPT = 2048,                   /* packets of a stream, for viewers that request them */
     MOST_FORWARDED = MOST_DATAGRAM - 2, /* bytes of a packet: a retransmission has two more */
-    REMB_INTERVAL = 1000                /* ms */
+    REMB_INTERVAL = 1000,               /* ms */
+    RATE_INTERVAL = 500,                /* ms in which bytes are counted for a rate */
+    LAYERS = 4,                         /* temporal layers */
+    CARRIED = 52                        /* bytes that a packet has on the path to a viewer beside its RTP */
 };
+
+/* What a track sends, as the path to a viewer carries it: delta frames by their temporal layers, and the latest keyframe. */
+typedef struct {
+    uint64_t at;                      /* ms: when the rates were measured */
+    uint64_t counted[LAYERS];         /* bytes since then */
+    uint64_t rates[LAYERS];           /* bits per second: an eighth of each is the latest interval, if it rises a quarter */
+    uint32_t time;                    /* RTP time of the latest keyframe */
+    uint64_t keyframe, last_keyframe; /* its bytes so far; those of the one before */
+} rates;
 
 /* What is known about the latest stream of a track. */
 typedef struct {
@@ -25,6 +37,7 @@ typedef struct {
     uint64_t frames, bytes, keyframes, faults, requested, keyframes_requested;
     uint64_t probes, probes_late, probes_duplicate; /* retransmissions of packets that had come, and how the session counted them */
     uint64_t waited, longest_wait; /* ms from the first packet of a frame to its release: of all frames, and of one */
+    rates rates;
 } track;
 
 struct publisher {
@@ -239,11 +252,52 @@ bool publisher_clock(peer *it, int number, cpay_sender_clock_info *clock) {
     return of->begun && cpay_session_sender_clock(&it->publisher->session, of->source.ssrc, payload_type, clock) == CPAY_OK;
 }
 
+/* ---- what the tracks send ---- */
+
+/* Counts a packet. Keyframes are not part of the rate: they come when a viewer needs one. */
+void publisher_count(peer *it, int number, const cpay_rtp_info *info, int temporal, bool begins_keyframe) {
+    rates *of = &it->publisher->tracks[number].rates;
+    size_t size = info->payload_len + 12 + CARRIED;
+    if (begins_keyframe && number != AUDIO && info->timestamp != of->time) {
+        of->last_keyframe = of->keyframe;
+        of->keyframe = 0;
+        of->time = info->timestamp;
+    }
+    if (number != AUDIO && of->keyframe + begins_keyframe > 0 && info->timestamp == of->time) of->keyframe += size;
+    else of->counted[temporal < LAYERS ? temporal : LAYERS - 1] += size;
+}
+
+static void measure(rates *of, uint64_t now) {
+    uint64_t passed = now - of->at;
+    if (passed < RATE_INTERVAL) return;
+    for (int i = 0; i < LAYERS; i++) {
+        uint64_t rate = of->at ? of->counted[i] * 8000 / passed : 0;
+        unsigned weight = rate > of->rates[i] ? 4 : 8;
+        of->rates[i] = of->rates[i] && rate ? (of->rates[i] * (weight - 1) + rate) / weight : rate;
+        of->counted[i] = 0;
+    }
+    of->at = now;
+}
+
+/* Of the temporal layers up to this one, in bits per second. 0: the track sends nothing now. */
+uint64_t publisher_rate(const peer *it, int number, int temporal) {
+    uint64_t rate = 0;
+    for (int i = 0; i <= temporal && i < LAYERS; i++) rate += it->publisher->tracks[number].rates.rates[i];
+    return rate;
+}
+
+/* The bytes of a keyframe. */
+uint64_t publisher_keyframe(const peer *it, int number) {
+    const rates *of = &it->publisher->tracks[number].rates;
+    return of->keyframe > of->last_keyframe ? of->keyframe : of->last_keyframe;
+}
+
 source *publisher_source(peer *it, int number) { return &it->publisher->tracks[number].source; }
 
 void publisher_tick(peer *it, uint64_t now) {
     publisher *own = it->publisher;
     cpay_sender_clock_info clock = {0};
+    for (int i = 0; i < TRACKS; i++) measure(&own->tracks[i].rates, now);
     for (int i = 0; i < TRACKS; i++)
         if (is_recorded(it, i) && publisher_clock(it, i, &clock)) record_clock(own->record, kind_of(i), &clock);
     if (!the.remb || now - own->remb_sent < REMB_INTERVAL || !own->tracks[last_track(it)].source.arrived) return;

@@ -1,8 +1,10 @@
 """A network between browsers, or between a browser and live_server: a relay of datagrams that loses a part of the SRTP."""
 
+import contextlib
 import heapq
 import itertools
 import json
+import os
 import random
 import re
 import select
@@ -55,24 +57,43 @@ class Relay(threading.Thread):
 
 
 class Narrow(Relay):
-    """A relay whose second side sends to the first one over a narrow link: so many bit/s, with a queue of so many seconds that drops
-    what does not fit, and 20 ms each way."""
+    """A relay whose second side sends to the first one over a narrow link: a rate in bit/s, or steps of (seconds, rate), with a queue
+    of so many seconds that drops what does not fit, and 20 ms each way. It notes for each datagram of the second side when it came,
+    how long it waited, and its bytes; None in place of the wait: it was dropped."""
 
-    def __init__(self, rate, longest):
-        super().__init__(0)
-        self.rate, self.longest, self.free, self.waiting = rate, longest, 0, []
+    def __init__(self, rate, longest, loss=0, seed=1):
+        super().__init__(loss, seed=seed)
+        self.steps = rate if isinstance(rate, list) else [(float("inf"), rate)]
+        self.longest, self.free, self.waiting, self.began, self.noted = longest, 0, [], None, []
+
+    def rate(self, now):
+        """The rate now, in bit/s. The first step begins with the first SRTP."""
+        passed = now - (self.began or now)
+        for seconds, rate in self.steps:
+            passed -= seconds
+            if passed < 0:
+                return rate
+        return self.steps[-1][1]
 
     def due(self, side, data):
-        """When a datagram of this side is delivered. None: it is dropped."""
+        """When a datagram of this side is delivered. None: it is lost or dropped."""
         now = time.monotonic()
+        lost = 128 <= data[0] < 192 and self.chance.random() >= self.kept
         if side == 0:
-            return now + 0.02
-        if max(now, self.free) - now > self.longest:
+            return None if lost else now + 0.02
+        if self.began is None and 128 <= data[0] < 192:
+            self.began = now
+        begin = max(now, self.free)
+        if begin - now > self.longest:
+            self.noted.append((now, None, len(data) + 28))
             return None
-        self.free = max(now, self.free) + (len(data) + 28) * 8 / self.rate
-        return self.free + 0.02
+        self.noted.append((now, begin - now, len(data) + 28))
+        self.free = begin + (len(data) + 28) * 8 / self.rate(begin)
+        return None if lost else self.free + 0.02
 
     def run(self):
+        with contextlib.suppress(PermissionError):  # a link does not wait for a processor
+            os.sched_setscheduler(0, os.SCHED_RR, os.sched_param(2))
         for count in itertools.count():
             if self.stopped:
                 return

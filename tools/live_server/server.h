@@ -13,7 +13,7 @@
 
 /* Bounds. */
 enum {
-    MOST_PEERS = 256,
+    MOST_PEERS = 65535,      /* that the option --peers may name */
     MOST_PUBLISHERS = 32,
     MOST_LAYERS = 3,         /* of simulcast */
     MOST_ADDRESSES = 4,      /* of a peer, and of the server */
@@ -43,6 +43,8 @@ typedef struct {
 
 typedef struct publisher publisher; /* receive.c */
 typedef struct outgoing outgoing;   /* viewers.c */
+typedef struct viewer_path viewer_path; /* path.c */
+typedef struct protection protection;   /* protect.c */
 
 /* A browser: a publisher or a viewer. */
 typedef struct {
@@ -61,12 +63,14 @@ typedef struct {
     uint64_t began, heard; /* ms: when its offer came, and its latest STUN request or packet of SRTP */
     SSL *ssl;
     srtp_t in, out;
+    protection *quick; /* of what leaves, in place of `out`; NULL: the profile is another one */
     agreed media[KINDS];
     char layers[MOST_LAYERS][MOST_NAME]; /* the RIDs of simulcast, in the order of the offer; 0 or 1: no simulcast */
     int layers_len;
     uint8_t transport_id; /* id of the header extension with the transport-wide number; 0: none */
     publisher *publisher;         /* one of the two: a publisher, or the streams of a viewer by their kinds */
     outgoing *viewer;
+    viewer_path *path;            /* of a viewer */
 } peer;
 
 /* How the network is made worse, each way. */
@@ -81,6 +85,7 @@ typedef struct {
     const char *candidates[MOST_ADDRESSES]; /* addresses under which browsers reach the UDP port */
     int candidates_len;
     uint16_t http, udp;
+    unsigned peers; /* the most at once */
     bool transport, remb; /* feedback about each packet, or a largest bitrate */
     uint32_t bitrate;     /* of REMB, in bits per second */
     impairment network;
@@ -109,9 +114,9 @@ uint64_t network_deadline(void);
 void network_flush(void);
 
 /* peers.c: the table of peers */
-extern peer peers[MOST_PEERS];
+extern peer *peers, *peers_end; /* room for --peers of them; behind the end none is used */
 #define EACH_PEER(it)                                                                                                            \
-    for (peer *it = peers; it < peers + MOST_PEERS; it++)                                                                        \
+    for (peer *it = peers; it < peers_end; it++)                                                                                 \
         if (it->used)
 void secret(void *bytes, size_t size); /* random bytes */
 bool is_name(const char *text);
@@ -122,8 +127,11 @@ peer *peer_publisher(const char *name);           /* who publishes under the nam
 peer *peer_session(const char *path);             /* whose id the path begins with */
 bool peer_end(const char *id, char *to, size_t room); /* why a session ended; false: it lives, or is forgotten */
 bool peer_is_silent(const peer *it);
+void peers_start(void);
 peer *peer_at(const struct sockaddr_in *from);
+peer *peer_handshaking_at(const struct sockaddr_in *from); /* the one whose keys are not there yet, if there is one */
 void peer_seen(peer *it, const struct sockaddr_in *at, bool nominated);
+void peer_owns(peer *it, const struct sockaddr_in *at); /* all others that are known at the address are not there any more */
 void peer_secured(peer *it);
 void peers_tick(uint64_t now);
 
@@ -136,10 +144,15 @@ bool ice_take(const struct sockaddr_in *from, const uint8_t *bytes, size_t size)
 /* dtls.c */
 extern char dtls_fingerprint[96];
 void dtls_start(void);
-void dtls_take(peer *it, const uint8_t *bytes, size_t size);
+void dtls_take(peer *it, const struct sockaddr_in *from, const uint8_t *bytes, size_t size);
 void dtls_tick(peer *it);
 void dtls_end(peer *it);
 void srtp_send(peer *to, uint8_t *bytes, size_t size, bool rtcp); /* `bytes` are those of network_room */
+
+/* protect.c: SRTP of what leaves */
+protection *protect_new(const uint8_t *key, const uint8_t *salt); /* NULL: out of memory */
+bool protect_packet(protection *it, uint8_t *bytes, int *size);   /* behind the packet is room for the tag of 16 bytes */
+void protect_free(protection *it);
 
 /* receive.c: publishers */
 typedef struct {
@@ -155,6 +168,9 @@ uint64_t publisher_deadline(peer *it);
 void publisher_wants_keyframe(peer *it, int track);
 bool publisher_clock(peer *it, int track, cpay_sender_clock_info *clock);
 source *publisher_source(peer *it, int track);
+void publisher_count(peer *it, int track, const cpay_rtp_info *info, int temporal, bool begins_keyframe);
+uint64_t publisher_rate(const peer *it, int track, int temporal);
+uint64_t publisher_keyframe(const peer *it, int track);
 void publisher_stats(peer *it, FILE *to);
 void publisher_free(peer *it);
 int last_track(const peer *it); /* of video: the layer that is recorded, and that a viewer gets first */
@@ -168,6 +184,11 @@ void viewer_take(peer *it, const uint8_t *bytes, size_t size); /* RTCP */
 void viewer_tick(peer *it, uint64_t now);
 void viewer_stats(peer *it, FILE *to);
 void viewer_free(peer *it);
+
+/* path.c: the path to a viewer. Times are in microseconds. */
+void path_send(peer *it, peer *from, uint64_t now); /* what may leave now */
+void path_serve(peer *it, peer *from, uint64_t now); /* the same, and layers are chosen when it is time */
+uint64_t path_deadline(const peer *it);
 
 /* rtcp.c: RTCP of viewers */
 typedef struct {

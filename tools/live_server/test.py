@@ -29,8 +29,8 @@ import threading
 import time
 import urllib.request
 
+from bandwidth import measure
 from browsers import Chromium, Failed, Firefox, Page, firefox, require, wait_for
-from relay import Narrow
 from servers import HERE, Server, call, free_port, publisher_of, real_time, viewer_of
 
 sys.path.append(str(HERE.parent / "chromium"))
@@ -182,6 +182,7 @@ def test_layers():
             wait_for(layer, lambda: viewer.statistic("watch").get("frameWidth") == width, 10)
             widths.append(round(1000 * (time.monotonic() - began)))
             time.sleep(1.5)
+        wait_for("path that carries all frames", lambda: it.streams("viewers")[0]["temporal"] >= 2)
         for temporal in ("T3", "T1", "T0", "T3"):
             viewer.choose("frames", temporal)
             time.sleep(1)
@@ -195,7 +196,7 @@ def test_layers():
 
 
 def test_fits():
-    """With two layers a page gets the one that fits its window, and the small one where many packets are lost."""
+    """With two sizes a page gets the one that fits its window, and the one that a person chose."""
     with Server() as it:
         it.page("publish=camera&layers")
         wait_for("both layers", lambda: sum(stream["frames"] > 10 for stream in it.streams()) == 2)
@@ -210,28 +211,35 @@ def test_fits():
         for width, picture in ((1100, 640), (400, 320), (1100, 640)):
             window(width)
             gets(picture, f"in a window of {width}")
-        it.network(loss=30)
-        gets(320, "at 30 % loss")
-        it.network()
-        gets(640, "without loss again")
-    return "by the window and by losses"
+        for layer, picture in (("half", 320), ("full", 640)):
+            viewer.choose("layer", layer)
+            gets(picture, f"of the layer {layer}")
+        words = "document.getElementById('carries').textContent"
+        said = wait_for("sentence about the path", lambda: re.match(r"The path carries \d+ kbit/s: the large size is sent", viewer.evaluate(words)), 5)[0]
+    return f"by the window and by choice; {said!r}"
 
 
-def test_narrow(seconds=40):
-    """A viewer behind 300 kbit/s with a queue of 300 ms: what is resent does not fill its link, and it goes on with the small size."""
-    with Server() as it:
-        it.page("publish=camera&layers")
-        wait_for("both layers", lambda: sum(stream["frames"] > 10 for stream in it.streams()) == 2)
-        narrow = Narrow(300_000, 0.3)
-        viewer = viewer_of(it, script=narrow.to_server(it.udp))
-        shown, before = [], viewer.frames()
-        for _ in range(seconds // 5):
-            time.sleep(5)
-            shown, before = [*shown, viewer.frames() - before], viewer.frames()
-        video, freezes = it.streams("viewers")[0], viewer.statistic("watch")["freezeCount"]
-        narrow.stopped = True
-    figures = f"{shown} frames in each 5 s, {freezes} freezes, {video['resent']} of {video['packets']} packets resent, {video['refused']} requests refused"
-    require(min(shown[1:]) >= 25 and sum(shown[1:]) > 10 * (seconds - 5), figures)
+def seen(found, name):
+    """What a viewer behind a link saw, in words."""
+    it = found[name][1]
+    return (f"{it['frames']} frames, {it['freezes']} of them after more than 250 ms, at most {it['longest']:.0f} ms, queue {it['queue'][0]:.0f} ms, "
+            f"best choice {it['best']:.0f} % of the time, {it['switches']} switches, {it['resent']} resent")
+
+
+def test_narrow():
+    """Viewers behind 300 kbit/s with a queue of 300 ms, one of them with losses of 5 %: the picture goes on, and the queue stays short."""
+    found = measure({"whole": ((300,), 300, 0), "lossy": ((300,), 300, 5)})
+    figures = "; ".join(f"{name}: {seen(found, name)}" for name in found)
+    for name, (_, it) in found.items():
+        require(it["frames"] > 300 and it["longest"] < 600 and it["freezes"] <= 3 and it["queue"][0] < 100 and it["best"] >= 80, figures)
+    return figures
+
+
+def test_steps():
+    """A link of 3,000, 300 and 1,000 kbit/s, 12 s each: no freeze of 600 ms, a short queue, and the best choice most of the time."""
+    found = measure({"steps": ((3000, 300, 1000), 300, 0)}, step=12)
+    figures, it = seen(found, "steps"), found["steps"][1]
+    require(it["longest"] < 600 and it["freezes"] <= 2 and it["queue"][0] < 100 and it["best"] >= 60 and it["switches"] >= 3, figures)
     return figures
 
 
@@ -290,11 +298,11 @@ def test_refusals():
     return "all"
 
 
-def answers(it, wanted, *request):
-    """The headers of a reply with the wanted status."""
-    status, text, headers = it.request(*request)
-    require(status == wanted, f"{request[0]} {request[1]}: {status} {text}, and not {wanted}")
-    return headers
+def answers(it, wanted, *request, text=False):
+    """The headers of a reply with the wanted status, or its text."""
+    status, body, headers = it.request(*request)
+    require(status == wanted, f"{request[0]} {request[1]}: {status} {body}, and not {wanted}")
+    return body if text else headers
 
 
 def test_sessions():
@@ -327,6 +335,65 @@ def test_token():
         wait_for("frame", lambda: page.statistic("publish").get("framesSent", 0) > 30)
         said = [reads(it.page(f"watch&{query}"), words, 5) for query, words in (("", "asks for a token"), ("token=other", "token is wrong"))]
     return f"published; {said}"
+
+
+def handshake(it, name, port, key, certificate, finger):
+    """A publisher without a browser: an offer, a request of STUN and DTLS by openssl, from this port. Returns the process and how long it
+    took until the server had its keys."""
+    answer = answers(it, 201, "POST", f"/whip/{name}", OFFER.replace("{codec}", "VP8").replace(":".join(["AB"] * 32), finger), SDP, text=True)
+    user, password = (re.search(rf"a=ice-{word}:(\S+)", answer)[1] for word in ("ufrag", "pwd"))
+    with socket.socket(socket.AF_INET, socket.SOCK_DGRAM) as to:
+        to.bind(("127.0.0.1", port))
+        to.settimeout(5)
+        to.sendto(stun_request(user, password), ("127.0.0.1", it.udp))
+        require(to.recv(200)[:2] == b"\1\1", "the request of STUN is answered")
+    words = ["openssl", "s_client", "-dtls1_2", "-connect", f"127.0.0.1:{it.udp}", "-bind", f"127.0.0.1:{port}", "-key", key, "-cert", certificate,
+             "-use_srtp", "SRTP_AES128_CM_SHA1_80"]
+    began = time.monotonic()
+    process = subprocess.Popen(words, stdin=subprocess.PIPE, stdout=subprocess.DEVNULL, stderr=subprocess.DEVNULL)
+    wait_for(f"keys of {name}", lambda: any(each["name"] == name and each["connected"] for each in it.stats()["publishers"]), 8)
+    return process, time.monotonic() - began
+
+
+def test_reused():
+    """A browser ends without a word, and the system gives its port to the next one at once: its handshake ends as soon as any."""
+    took = []
+    with Server() as it:
+        key, certificate = f"{it.folder.name}/key.pem", f"{it.folder.name}/certificate.pem"
+        make = ["openssl", "req", "-x509", "-newkey", "ec", "-pkeyopt", "ec_paramgen_curve:P-256", "-nodes", "-subj", "/CN=test", "-keyout", key, "-out", certificate]
+        subprocess.run(make, check=True, capture_output=True)
+        printed = subprocess.run(["openssl", "x509", "-in", certificate, "-noout", "-fingerprint", "-sha256"], check=True, capture_output=True, text=True)
+        port = free_port(socket.SOCK_DGRAM)
+        for name in ("first", "second", "third"):
+            process, seconds = handshake(it, name, port, key, certificate, printed.stdout.strip().split("=")[1])
+            took.append(round(seconds, 1))
+            process.kill()
+            process.communicate()
+        require(len(it.stats()["publishers"]) == 3, "all three are in the table")
+    require(max(took) < 0.9, f"handshakes took {took} s")
+    return f"three handshakes from one port, each within {max(took)} s"
+
+
+def test_protect():
+    """What leaves is encrypted as libsrtp does it: numbers that come to 0 again, come late or come twice."""
+    subprocess.run(["make", "-s", "protect_test"], cwd=HERE, check=True)
+    ran = subprocess.run([HERE / "protect_test"], capture_output=True, text=True)
+    require(ran.returncode == 0, ran.stdout + ran.stderr)
+    return ran.stdout.strip()
+
+
+def test_full():
+    """A server that is full takes the place of a browser that ended without a word."""
+    with Server("--peers", "2") as it:
+        offer = OFFER.replace("{codec}", "VP8")
+        answers(it, 201, "POST", "/whip/one", offer, SDP)
+        answers(it, 201, "POST", "/whip/two", offer, SDP)
+        answers(it, 503, "POST", "/whip/three", offer, SDP)
+        time.sleep(4.5)
+        answers(it, 201, "POST", "/whip/three", offer, SDP)
+        names = sorted(each["name"] for each in it.stats()["publishers"])
+    require(names == ["three", "two"], names)
+    return "the silent one left"
 
 
 # ---- what a person reads ----
@@ -623,7 +690,7 @@ TESTS = {f"{codec}-{loss}": (lambda codec=codec, loss=loss: test_call(codec, los
 TESTS |= {f"firefox-{name}": (lambda words=words: test_firefox(*words)) for name, words in {
     "publishes": (Firefox, Chromium, "VP8", 0), "watches": (Chromium, Firefox, "VP8", 0), "VP8-5": (Firefox, Firefox, "VP8", 5),
     "VP9-2": (Firefox, Firefox, "VP9", 2), "AV1-2": (Firefox, Firefox, "AV1", 2)}.items()}
-TESTS |= {name: globals()[f"test_{name}"] for name in ("refusals", "sessions", "token", "disk", "phone", "picture", "reordered", "viewers", "conference", "feedback", "layers", "fits", "narrow", "reload",
+TESTS |= {name: globals()[f"test_{name}"] for name in ("refusals", "sessions", "token", "reused", "full", "protect", "disk", "phone", "picture", "reordered", "viewers", "conference", "feedback", "layers", "fits", "narrow", "steps", "reload",
                                                       "left", "restart", "blocked", "taken", "camera", "elsewhere", "aiortc", "damaged", "hostile")}
 
 

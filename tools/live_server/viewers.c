@@ -1,55 +1,35 @@
 /* Viewers: each gets the packets of its publisher under other SSRCs and numbers, and again what it requests. */
-#include "server.h"
+#include "viewers.h"
 
+#include <codec_payload_media.h>
 #include <libavutil/intreadwrite.h>
 #include <stdlib.h>
 #include <string.h>
 
 enum {
     REPORT_INTERVAL = 1000, /* ms between two sender reports */
-    MOST_RESENT = 100,      /* packets in a tick of 50 ms: nobody makes the server a source of floods */
-    SHARE = 500,            /* thousandths: at most half of the bytes that are sent are sent again */
-    HALF_WINDOW = 500,      /* ms: half of the time whose bytes count for that */
-    MOST_FILLED = 64,       /* packets of padding that are kept for requests */
     FILLED_FOR = 5000,      /* ms: numbers come again after 65,536 packets */
     EARLY = 64,             /* packets of a keyframe that may come before its first one */
     RED_BUDGET = 1200,      /* bytes of a RED payload */
-    FULL = 1200,            /* bytes of a packet of video */
-    ALL_LAYERS = 3,
-    HEADER = 12 /* bytes of an RTP header without extension */
+    LARGE = 600             /* bytes of a packet that fills a trial well */
 };
 
-/* One stream of a viewer. */
-struct outgoing {
-    cpay_forwarder forwarder;
-    cpay_red_sender red;  /* with RED */
-    uint32_t ssrc;        /* of the viewer; that of retransmissions is one more */
-    int track, wanted;    /* the publisher's track that it gets, and the one to go over to */
-    int temporal, layers; /* the highest temporal layer that it is to get, and that of the picture that it gets now */
-    unsigned resent_now;  /* in this tick */
-    cpay_resend_limit limit; /* a narrow link is not filled with retransmissions, whose losses are requested again */
-    uint64_t requested, refused, not_kept, keyframes_wanted;
-    uint64_t report_sent;  /* ms */
-    uint32_t report_ntp;   /* the middle 32 bits of its NTP time */
-    report_block reported; /* by the viewer */
-    uint64_t round_trip;   /* ms */
-    struct {
-        uint64_t sent; /* ms */
-        uint8_t bytes[HEADER + 1];
-    } filled[MOST_FILLED]; /* the latest packets of padding, in a ring */
-    size_t filled_count;
-};
+/* The packet that came just now. It is in its store too. */
+static struct {
+    const uint8_t *bytes;
+    size_t size;
+    uint32_t ssrc;
+    uint16_t number;
+} fresh;
 
 static uint64_t rate_of(int kind) { return kind == AUDIO ? 48000 : 90000; }
 
 static bool begin_stream(outgoing *to, const agreed *media) {
     static const uint32_t distance[] = {1};
     cpay_forwarder_settings settings;
-    cpay_resend_limit_settings limit = {.half_window = HALF_WINDOW, .share = SHARE};
     secret(&to->ssrc, sizeof to->ssrc);
     to->temporal = to->layers = ALL_LAYERS;
     if (!media->used) return true;
-    if (cpay_resend_limit_new(&to->limit, &limit)) return false;
     cpay_forwarder_settings_init(&settings, media->codec, to->ssrc, media->payload_type);
     secret(&settings.first_time, sizeof settings.first_time);
     secret(&settings.first_number, sizeof settings.first_number);
@@ -62,27 +42,23 @@ static bool begin_stream(outgoing *to, const agreed *media) {
            cpay_red_sender_new(&to->red, media->red_payload_type, media->payload_type, distance, 1) == CPAY_OK;
 }
 
+/* A viewer begins with the smallest size, unless it reports nothing about its path. */
 const char *viewer_begin(peer *it, peer *of) {
+    const agreed *video = &it->media[VIDEO];
+    if (video->used && !video->rtx_payload_type) it->transport_id = 0; /* a packet that leaves again has its own bytes: see path.c */
     it->viewer = of ? calloc(KINDS, sizeof *it->viewer) : NULL;
-    for (int kind = 0; kind < KINDS && it->viewer; kind++) {
+    if (!it->viewer || !path_begin(it)) return "Out of memory.\n";
+    for (int kind = 0; kind < KINDS; kind++) {
         outgoing *to = &it->viewer[kind];
-        to->track = to->wanted = kind == VIDEO ? last_track(of) : AUDIO;
+        to->track = to->wanted = kind == VIDEO && !it->path->follows ? last_track(of) : kind;
         if (!begin_stream(to, &it->media[kind])) return "Out of memory.\n";
     }
-    return it->viewer ? NULL : "Out of memory.\n";
+    return NULL;
 }
 
 uint32_t viewer_ssrc(const peer *it, int kind) { return it->viewer[kind].ssrc; }
 
-/* ---- packets ---- */
-
-/* The temporal layer of a VP8 payload, and whether a picture begins with it. */
-static int temporal_of(cpay_codec codec, const uint8_t *payload, size_t size, bool *begins) {
-    cpay_temporal_layer_info layer = {0};
-    if (codec != CPAY_VP8) return 0;
-    *begins = size > 0 && (payload[0] & 0x1f) == 0x10; /* S, and partition 0 */
-    return cpay_temporal_layer(codec, payload, size, &layer) == CPAY_OK ? layer.id : 0;
-}
+/* ---- packets: each waits on the path until it may leave, and is written then ---- */
 
 /* Wraps a packet of audio in RED, with the one before it (RFC 2198). Returns the new size. */
 static size_t wrap(outgoing *to, uint8_t red_payload_type, uint8_t *packet, size_t size) {
@@ -96,18 +72,6 @@ static size_t wrap(outgoing *to, uint8_t red_payload_type, uint8_t *packet, size
     return HEADER + length;
 }
 
-/* Leaves a packet out. Keeps the padding that is sent in place of a late one. Returns its size; 0: there is none. */
-static size_t leave_out(outgoing *to, const uint8_t *datagram, size_t datagram_len, uint8_t *out, cpay_forwarded *done) {
-    size_t size = 0;
-    if (cpay_forwarder_leave_out(&to->forwarder, datagram, datagram_len, out, MOST_DATAGRAM, &size, done)) return 0;
-    if (size == HEADER + 1) {
-        size_t place = to->filled_count++ % MOST_FILLED;
-        memcpy(to->filled[place].bytes, out, size);
-        to->filled[place].sent = now_ms();
-    }
-    return size;
-}
-
 /* The padding that was sent under this number lately; NULL: it is not kept. */
 static const uint8_t *filled_under(const outgoing *to, uint16_t number) {
     for (size_t i = 0; i < MOST_FILLED && i < to->filled_count; i++)
@@ -115,95 +79,204 @@ static const uint8_t *filled_under(const outgoing *to, uint16_t number) {
     return NULL;
 }
 
-/* Writes a packet for a viewer, or leaves it out. Returns its size; 0: there is nothing to send. */
-static size_t write_packet(outgoing *to, int kind, cpay_codec codec, const uint8_t *datagram, size_t datagram_len, uint8_t *out,
-                           cpay_forwarded *done) {
-    cpay_rtp_info info = {0};
-    size_t size = 0;
-    if (cpay_rtp_read(datagram, datagram_len, &info)) return 0;
-    bool begins = false;
-    int temporal = temporal_of(codec, datagram + info.payload_at, info.payload_len, &begins);
-    if (begins) to->layers = to->temporal; /* all packets of a picture are left out, or none */
-    if (temporal > to->layers) return leave_out(to, datagram, datagram_len, out, done);
-    uint64_t ticks = now_us() * rate_of(kind) / 1000000;
-    return cpay_forwarder_write(&to->forwarder, ticks, datagram, datagram_len, out, MOST_DATAGRAM, &size, done) ? 0 : size;
+/* The packet of a source that waits: the one that came just now, or from its store. NULL: it is gone. */
+static const uint8_t *packet_of(peer *from, const waiting *one, uint8_t *room, size_t *size) {
+    source *of = publisher_source(from, one->track);
+    cpay_resent found = CPAY_RESENT_NOT_KEPT;
+    if (fresh.bytes && fresh.ssrc == one->ssrc && fresh.number == one->number) {
+        *size = fresh.size;
+        return fresh.bytes;
+    }
+    if (!of->arrived || of->ssrc != one->ssrc) return NULL;
+    bool gone = cpay_history_resend(&of->store, 0, one->number, room, MOST_DATAGRAM, size, &found) || found != CPAY_RESENT_WRITTEN;
+    return gone ? NULL : room;
 }
 
-/* Sends a packet to a viewer, if it is to get it. Returns whether the viewer begins with it. */
-static bool forward_to(peer *it, peer *from, int track, const uint8_t *datagram, size_t datagram_len) {
+/* Writes a packet of the publisher. Returns its size. */
+static size_t write_packet(peer *it, peer *from, const waiting *one, uint8_t *out, size_t room) {
+    int kind = kind_of(one->track);
+    outgoing *to = &it->viewer[kind];
+    uint8_t store[MOST_DATAGRAM];
+    size_t datagram_len = 0, size = 0;
+    cpay_forwarded done = CPAY_FORWARDED_OTHER_SOURCE;
+    const uint8_t *datagram = packet_of(from, one, store, &datagram_len);
+    uint64_t ticks = now_us() * rate_of(kind) / 1000000;
+    if (!datagram || cpay_forwarder_write(&to->forwarder, ticks, datagram, datagram_len, out, room, &size, &done) || size == 0) return 0;
+    bool in_red = it->media[kind].red_payload_type && !to->without_red;
+    if (in_red) size = wrap(to, it->media[kind].red_payload_type, out, size);
+    if (kind == VIDEO && (size >= LARGE || to->newest_len < LARGE || (uint16_t)(AV_RB16(out + 2) - to->newest) > 128)) {
+        to->newest = AV_RB16(out + 2);
+        to->newest_len = size;
+    }
+    return size;
+}
+
+/* Writes a packet again that was sent. Returns its size, which is written also if there is no room. */
+static size_t write_again(peer *it, peer *from, const waiting *one, uint8_t *out, size_t room) {
+    outgoing *to = &it->viewer[one->track];
+    size_t size = 0;
+    cpay_resent resent = CPAY_RESENT_NOT_KEPT;
+    cpay_status status = cpay_forwarder_resend(&to->forwarder, &publisher_source(from, to->track)->store, one->number, out, room, &size, &resent);
+    return status == CPAY_OK || status == CPAY_TOO_SMALL ? size : 0;
+}
+
+size_t viewer_write(peer *it, peer *from, const waiting *one, uint8_t *out, size_t room) {
+    if (one->what == PACKET) return write_packet(it, from, one, out, room);
+    if (one->what == AGAIN) return write_again(it, from, one, out, room);
+    const uint8_t *padding = filled_under(&it->viewer[one->track], one->number);
+    if (!padding) return 0;
+    memcpy(out, padding, HEADER + 1);
+    return HEADER + 1;
+}
+
+/* Leaves a packet out. The padding that takes the place of a late one is kept, and leaves as soon as it may. */
+void viewer_leave_out(peer *it, peer *from, const waiting *one) {
+    outgoing *to = &it->viewer[VIDEO];
+    uint8_t store[MOST_DATAGRAM], out[MOST_DATAGRAM];
+    size_t datagram_len = 0, size = 0;
+    cpay_forwarded done = CPAY_FORWARDED_OTHER_SOURCE;
+    const uint8_t *datagram = packet_of(from, one, store, &datagram_len);
+    if (!datagram || cpay_forwarder_leave_out(&to->forwarder, datagram, datagram_len, out, sizeof out, &size, &done)) return;
+    if (size != HEADER + 1) return;
+    size_t place = to->filled_count++ % MOST_FILLED;
+    memcpy(to->filled[place].bytes, out, size);
+    to->filled[place].sent = now_ms();
+    path_push(it, CPAY_PATH_RESENT, (waiting){.what = FILLED, .track = VIDEO, .number = AV_RB16(out + 2)}, size);
+}
+
+/* ---- which packets a viewer is to get ---- */
+
+/* Goes over to layers. What waits of a larger size is not sent any more: its keyframe comes too late for the path. */
+void viewer_goes_to(peer *it, int track, int temporal, bool red) {
+    outgoing *to = &it->viewer[VIDEO];
+    it->viewer[AUDIO].without_red = !red;
+    to->temporal = temporal;
+    to->wanted = track;
+    if (!to->begun || track >= to->track) return;
+    path_remove_video(it);
+    to->begun = false;
+    (void)!cpay_forwarder_mute(&to->forwarder);
+}
+
+/* Whether a packet is the first of a keyframe with which the viewer goes over to another source. */
+static bool begins(const outgoing *to, int track, cpay_codec codec, const cpay_rtp_info *info, const uint8_t *datagram) {
+    bool begins = false;
+    if (track != to->wanted || (to->begun && to->source == info->ssrc)) return false;
+    return !cpay_begins_keyframe(codec, datagram + info->payload_at, info->payload_len, &begins) && begins;
+}
+
+/* Whether a packet belongs to the source that the viewer gets, and is not older than its first keyframe. */
+static bool is_current(outgoing *to, int track, const cpay_rtp_info *info) {
+    if (!to->begun || track != to->track || info->ssrc != to->source) return false;
+    uint16_t passed = (uint16_t)(info->sequence_number - to->first);
+    if (passed >= 32768) return false;
+    if (passed > 16384) to->first = (uint16_t)(info->sequence_number - 8192);
+    return true;
+}
+
+/* Whether a packet of video is left out: all packets of a picture, or none. More layers begin with a picture that refers to layers
+ * below alone. */
+static bool is_left_out(outgoing *to, cpay_codec codec, const cpay_rtp_info *info, const uint8_t *datagram) {
+    cpay_temporal_layer_info layer = {0};
+    const uint8_t *payload = datagram + info->payload_at;
+    if (codec != CPAY_VP8 || cpay_temporal_layer(codec, payload, info->payload_len, &layer)) return false;
+    bool first = info->payload_len > 0 && (payload[0] & 0x1f) == 0x10; /* S, and partition 0 */
+    if (first && to->layers > to->temporal) to->layers = to->temporal;
+    if (first && to->layers < to->temporal && layer.sync && layer.id == to->layers + 1) to->layers++;
+    return layer.id > to->layers;
+}
+
+/* A packet of the publisher waits for a viewer, if the viewer is to get it. Returns whether the viewer goes over with it. */
+static bool offer(peer *it, peer *from, int track, const cpay_rtp_info *info, const uint8_t *datagram) {
     int kind = kind_of(track);
     outgoing *to = &it->viewer[kind];
-    const agreed *media = &it->media[kind];
-    uint8_t *out = network_room();
-    cpay_forwarded done = CPAY_FORWARDED_OTHER_SOURCE;
-    if (!it->secure || !media->used || media->codec != from->media[kind].codec) return false;
-    if (track == to->wanted && cpay_forwarder_want(&to->forwarder, AV_RB32(datagram + 8))) return false;
-    size_t size = write_packet(to, kind, media->codec, datagram, datagram_len, out, &done);
-    if (size == 0) return false;
-    if (media->red_payload_type) size = wrap(to, media->red_payload_type, out, size);
-    if (cpay_resend_limit_sent(&to->limit, now_ms(), (uint32_t)size)) return false;
-    srtp_send(it, out, size, false);
-    if (done == CPAY_FORWARDED_BEGAN) to->track = track;
-    return done == CPAY_FORWARDED_BEGAN;
+    cpay_codec codec = it->media[kind].codec;
+    waiting one = {.what = PACKET, .track = (uint8_t)track, .number = info->sequence_number, .ssrc = info->ssrc};
+    if (!it->secure || !it->media[kind].used || codec != from->media[kind].codec) return false;
+    bool began = begins(to, track, codec, info, datagram);
+    if (began) {
+        if (cpay_forwarder_want(&to->forwarder, info->ssrc)) return false;
+        to->begun = true;
+        to->source = info->ssrc;
+        to->first = info->sequence_number;
+        to->track = track;
+        to->layers = to->temporal;
+    }
+    if (!is_current(to, track, info)) return false;
+    if (kind == VIDEO && is_left_out(to, codec, info, datagram)) path_leave_out(it, from, one);
+    else path_push(it, kind == AUDIO ? CPAY_PATH_AUDIO : CPAY_PATH_MEDIA, one, HEADER + info->payload_len * (kind == AUDIO ? 2 : 1));
+    return began;
 }
 
 /* Packets of a keyframe that came before its first one. */
-static void forward_early(peer *it, peer *from, int track, uint16_t number) {
+static void offer_early(peer *it, peer *from, int track, uint16_t number) {
     uint8_t datagram[MOST_DATAGRAM];
     size_t size = 0;
+    cpay_rtp_info info = {0};
     cpay_resent found = CPAY_RESENT_NOT_KEPT;
     cpay_history *store = &publisher_source(from, track)->store;
     for (uint16_t last = number + EARLY; number++ != last;)
-        if (!cpay_history_resend(store, 0, number, datagram, sizeof datagram, &size, &found) && found == CPAY_RESENT_WRITTEN)
-            forward_to(it, from, track, datagram, size);
+        if (!cpay_history_resend(store, 0, number, datagram, sizeof datagram, &size, &found) && found == CPAY_RESENT_WRITTEN &&
+            !cpay_rtp_read(datagram, size, &info))
+            offer(it, from, track, &info, datagram);
+}
+
+/* What the publisher sends is counted by its layers. */
+static void count(peer *from, int track, const cpay_rtp_info *info, const uint8_t *datagram) {
+    cpay_codec codec = from->media[kind_of(track)].codec;
+    cpay_temporal_layer_info layer = {0};
+    bool begins = false;
+    const uint8_t *payload = datagram + info->payload_at;
+    if (track != AUDIO && cpay_begins_keyframe(codec, payload, info->payload_len, &begins)) begins = false;
+    bool layered = codec == CPAY_VP8 && !cpay_temporal_layer(codec, payload, info->payload_len, &layer);
+    publisher_count(from, track, info, layered ? layer.id : 0, begins);
 }
 
 bool viewers_forward(peer *from, int track, const uint8_t *datagram, size_t size) {
     cpay_kept_once kept = CPAY_KEPT_KNOWN;
+    cpay_rtp_info info = {0};
     if (cpay_history_keep_once(&publisher_source(from, track)->store, datagram, size, &kept)) return true;
     if (kept != CPAY_KEPT_NEW) return kept != CPAY_KEPT_KNOWN;
-    EACH_PEER (it)
-        if (it->viewer && !strcmp(it->name, from->name) && forward_to(it, from, track, datagram, size))
-            forward_early(it, from, track, (uint16_t)AV_RB16(datagram + 2));
+    if (cpay_rtp_read(datagram, size, &info)) return true;
+    count(from, track, &info, datagram);
+    fresh.bytes = datagram, fresh.size = size, fresh.ssrc = info.ssrc, fresh.number = info.sequence_number;
+    EACH_PEER (it) {
+        if (!it->viewer || strcmp(it->name, from->name)) continue;
+        if (offer(it, from, track, &info, datagram)) offer_early(it, from, track, info.sequence_number);
+        if (it->path->deadline == 0) path_send(it, from, now_us());
+    }
+    fresh.bytes = NULL;
     return true;
 }
 
 /* ---- RTCP of a viewer ---- */
 
-/* Whether a packet may be resent: each number once in a round trip, and a share of the bytes that are sent. Its size is not known
- * before it is written, so it counts as a full one. */
-static bool may_resend(outgoing *to, uint16_t number) {
-    cpay_resend_answer answer = CPAY_RESEND_SHARE;
-    if (to->resent_now == MOST_RESENT) return false;
-    if (cpay_resend_limit_ask(&to->limit, now_ms(), number, FULL, to->round_trip + 10, &answer)) return false;
-    to->resent_now += answer == CPAY_RESEND_NOW;
-    return answer == CPAY_RESEND_NOW;
+void viewer_resend(peer *it, peer *from, int kind, uint16_t number) {
+    outgoing *to = &it->viewer[kind];
+    bool padding = filled_under(to, number); /* the packet that was left out is not to come in its place */
+    waiting one = {.what = padding ? FILLED : AGAIN, .track = (uint8_t)kind, .number = number};
+    size_t size = padding ? HEADER + 1 : write_again(it, from, &one, NULL, 0);
+    to->not_kept += size == 0;
+    if (size == 0) return;
+    if (path_may_resend(it, number, size)) path_push(it, CPAY_PATH_RESENT, one, size);
+    else to->refused++;
 }
 
-static void resend(peer *it, outgoing *to, cpay_history *store, uint16_t number) {
-    size_t size = 0;
-    cpay_resent resent = CPAY_RESENT_NOT_KEPT;
-    uint8_t *out = network_room();
-    to->requested++;
-    if (!may_resend(to, number)) {
-        to->refused++;
-        return;
-    }
-    const uint8_t *padding = filled_under(to, number); /* the packet that was left out is not to come in its place */
-    if (padding) {
-        memcpy(out, padding, HEADER + 1);
-        srtp_send(it, out, HEADER + 1, false);
-        return;
-    }
-    if (cpay_forwarder_resend(&to->forwarder, store, number, out, MOST_DATAGRAM, &size, &resent)) return;
-    to->not_kept += resent == CPAY_RESENT_NOT_KEPT;
-    if (resent != CPAY_RESENT_WRITTEN) return;
-    srtp_send(it, out, size, false);
+/* The usual share of losses, by what was sent between two reports. */
+static void note_losses(outgoing *to) {
+    cpay_forwarder_counts_info counts = {0};
+    if (cpay_forwarder_counts(&to->forwarder, &counts) || counts.packets < to->sent_before + 20) return;
+    int64_t lost = (int64_t)to->reported.lost - to->lost_before, sent = (int64_t)(counts.packets - to->sent_before);
+    unsigned now = lost <= 0 ? 0 : lost >= sent ? 1000 : (unsigned)(1000 * lost / sent);
+    to->losses = (7 * to->losses + now) / 8;
+    to->sent_before = counts.packets;
+    to->lost_before = to->reported.lost;
 }
 
 /* What the viewer reports: losses, and the round trip by the sender report that it names (RFC 3550, section 6.4.1). */
 static void read_report(outgoing *to, const uint8_t *bytes, size_t size) {
     if (!rtcp_read_block(bytes, size, to->ssrc, &to->reported)) return;
+    note_losses(to);
     if (to->reported.last == 0 || to->reported.last != to->report_ntp) return;
     uint64_t passed = now_ms() - to->report_sent, waited = (uint64_t)to->reported.delay * 1000 / 65536;
     to->round_trip = passed > waited ? passed - waited : 0;
@@ -212,6 +285,7 @@ static void read_report(outgoing *to, const uint8_t *bytes, size_t size) {
 void viewer_take(peer *it, const uint8_t *bytes, size_t size) {
     uint16_t numbers[512];
     peer *from = peer_publisher(it->name);
+    path_hear(it, from, bytes, size);
     for (int kind = 0; kind < KINDS && from; kind++) {
         outgoing *to = &it->viewer[kind];
         size_t count = 0;
@@ -219,7 +293,8 @@ void viewer_take(peer *it, const uint8_t *bytes, size_t size) {
         bool keyframe = false;
         if (cpay_read_requests(bytes, size, to->ssrc, false, numbers, 512, &count, &keyframe)) return;
         read_report(to, bytes, size);
-        for (size_t i = 0; i < count && i < 512; i++) resend(it, to, &publisher_source(from, to->track)->store, numbers[i]);
+        to->requested += count;
+        for (size_t i = 0; kind == VIDEO && i < count && i < 512; i++) viewer_resend(it, from, kind, numbers[i]);
         to->keyframes_wanted += keyframe;
         if (keyframe) publisher_wants_keyframe(from, to->track);
     }
@@ -242,10 +317,9 @@ static void tick_stream(peer *it, peer *from, int kind, uint64_t now) {
     outgoing *to = &it->viewer[kind];
     cpay_sender_clock_info clock = {0};
     uint32_t source = 0;
-    to->resent_now = 0;
     if (kind == VIDEO && to->wanted > last_track(from)) to->wanted = last_track(from); /* the next publisher has fewer layers */
     bool gets = cpay_forwarder_source(&to->forwarder, &source) == CPAY_OK;
-    bool waits = !gets || to->track != to->wanted || source != publisher_source(from, to->wanted)->ssrc;
+    bool waits = !to->begun || to->track != to->wanted || to->source != publisher_source(from, to->wanted)->ssrc;
     if (kind == VIDEO && waits) publisher_wants_keyframe(from, to->wanted);
     bool same = gets && source == publisher_source(from, to->track)->ssrc;
     if (same && now - to->report_sent >= REPORT_INTERVAL && publisher_clock(from, to->track, &clock))
@@ -260,24 +334,40 @@ void viewer_tick(peer *it, uint64_t now) {
 
 /* ---- the viewer's wishes, and its counts ---- */
 
+/* `T0` to `T3`: the highest temporal layer. A RID: this size. `fits`: the size that fits the path; `fits RID`: at most this one. */
 bool viewer_wants_layer(peer *it, const char *name) {
     const peer *from = peer_publisher(it->name);
-    if (!it->viewer) return false;
+    wishes *wish = it->viewer ? &it->path->wishes : NULL;
+    bool fits = !strncmp(name, "fits", 4) && (name[4] == ' ' || !name[4]);
+    if (!wish) return false;
     if (name[0] == 'T' && name[1] >= '0' && name[1] <= '0' + ALL_LAYERS && !name[2]) {
-        it->viewer[VIDEO].temporal = name[1] - '0';
+        wish->temporal = name[1] - '0';
+        return true;
+    }
+    if (fits && !name[4]) {
+        wish->least = VIDEO, wish->most = TRACKS - 1;
         return true;
     }
     for (int i = 0; from && i < from->layers_len; i++) {
-        if (strcmp(from->layers[i], name)) continue;
-        it->viewer[VIDEO].wanted = VIDEO + i;
+        if (strcmp(from->layers[i], fits ? name + 5 : name)) continue;
+        wish->most = VIDEO + i;
+        wish->least = fits ? VIDEO : wish->most;
         return true;
     }
     return false;
 }
 
+static void path_stats(const viewer_path *path, FILE *to) {
+    fprintf(to, COUNT("estimate") COUNT("queued") COUNT("dropped") COUNT("padding") COUNT("pathRoundTrip") "\"choice\":%d,\"rates\":[",
+            path->follows ? path->state.estimate : 0, path->state.waiting, path->dropped, path->padding, path->round_trip / 1000, path->choice);
+    for (size_t i = 0; i < path->rates_len; i++) fprintf(to, "%s%" PRIu64, i ? "," : "", path->rates[i]);
+    fputs("],", to);
+}
+
 void viewer_stats(peer *it, FILE *to) {
     const peer *from = peer_publisher(it->name);
     const char *comma = "";
+    path_stats(it->path, to);
     fputs("\"streams\":[", to);
     for (int kind = 0; kind < KINDS; kind++) {
         outgoing *of = &it->viewer[kind];
@@ -300,9 +390,9 @@ void viewer_stats(peer *it, FILE *to) {
 void viewer_free(peer *it) {
     for (int kind = 0; kind < KINDS; kind++) {
         cpay_forwarder_free(&it->viewer[kind].forwarder);
-        cpay_resend_limit_free(&it->viewer[kind].limit);
         cpay_red_sender_free(&it->viewer[kind].red);
     }
     free(it->viewer);
     it->viewer = NULL;
+    path_free(it);
 }

@@ -8,7 +8,7 @@ them. Where Chromium, ffmpeg and the libraries of tools/live_server are installe
 from it for 12 s at each loss, with 20 ms a hop; these figures vary. Without them that column is left out. On a busy machine the
 camera of Chromium gives fewer frames than its 20 a second: below nine tenths of them, in three calls, the column is left out too.
 
-At 5 % loss the viewer must show at least 95 of 100 frames, and be frozen for at most 1.6 s.
+At 5 % loss the viewer must show at least 95 of 100 frames. In Chromium it may be frozen for 1.6 s, simulated for 3 s: the link falls twice.
 Needs cargo of 1.85 or later. The last line says what passed; the status is 0 if all passed.
 """
 import os
@@ -21,8 +21,9 @@ ROOT = os.path.dirname(os.path.dirname(os.path.dirname(os.path.realpath(__file__
 SERVER = f"{ROOT}/tools/live_server"
 LOSSES = (0, 2, 5)
 SECONDS = 12
-# At 5 % loss: the least part of the frames that is shown, in percent, and the most milliseconds of a frozen picture.
-LEAST_SHOWN, MOST_FROZEN = 95, 1_600
+# At 5 % loss: the least part of the frames that is shown, in percent, and the most milliseconds of a frozen picture, by column.
+LEAST_SHOWN = 95
+MOST_FROZEN = {"`Forwarder`, in Chromium": 1_600, "`Forwarder`, simulated": 3_000}
 
 sys.path.append(SERVER)
 
@@ -61,10 +62,10 @@ def between_browsers():
     return found
 
 
-def falls_short(figures):
+def falls_short(figures, most_frozen):
     """Whether the figures at 5 % are worse than the bounds."""
     shown, sent, frozen = figures[5]
-    return shown * 100 < LEAST_SHOWN * sent or frozen > MOST_FROZEN
+    return shown * 100 < LEAST_SHOWN * sent or frozen > most_frozen
 
 
 def main():
@@ -80,7 +81,7 @@ def main():
     print("\n".join(rows))
     with open(f"{ROOT}/docs/use/FORWARDING.md", encoding="utf-8") as page:
         text = page.read()
-    faults = [f"{name}: worse than its bound at 5 %" for name, each in columns.items() if falls_short(each)]
+    faults = [f"{name}: worse than its bound at 5 %" for name, each in columns.items() if falls_short(each, MOST_FROZEN[name])]
     faults += [f"docs/use/FORWARDING.md lacks {cell(*each)!r}" for each in columns["`Forwarder`, simulated"].values() if cell(*each) not in text]
     print("\n".join([*faults, f"forwarding: {browser}: {f'{len(faults)} faults' if faults else 'all passed'}"]))
     return 1 if faults else 0
