@@ -1,0 +1,4 @@
+pub mod Contents
+pub mod Late
+pub mod Runs
+pub mod States

@@ -1,0 +1,1 @@
+-- Calls of a receiver of FEC, and what they hand out.
