@@ -1,2 +1,3 @@
 pub mod HeldLemmas
 pub mod LateLemmas
+pub mod SoundLemmas

@@ -1,3 +1,4 @@
+pub mod Beginning
 pub mod Contents
 pub mod Late
 pub mod Runs

@@ -27,7 +27,7 @@ pub struct FecSettings {
 
 /// What a datagram is.
 #[derive(Clone, Copy, Debug, PartialEq, Eq)]
-pub enum Content<'a> {
+pub(crate) enum Content<'a> {
     /// It is not of the stream, or has several blocks of RED.
     Nothing,
     /// A packet of media, as it was before RED.
@@ -78,7 +78,7 @@ fn of_stream<'a>(settings: &FecSettings, packet: &RtpPacket<'a>) -> Content<'a>
 }
 
 /// Returns what a datagram is. Does not allocate.
-pub fn content_of<'a>(settings: &FecSettings, datagram: &'a [u8]) -> Content<'a>
+pub(crate) fn content_of<'a>(settings: &FecSettings, datagram: &'a [u8]) -> Content<'a>
     ensures value { content_view result ≡ content_of settings.now (rtp_at datagram.now) }
     ensures fits { FitsContent (content_view result) }
 {

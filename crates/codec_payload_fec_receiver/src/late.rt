@@ -37,7 +37,7 @@ fn is_id(known: Option<u8>, id: u8) -> bool
 
 impl LateIds {
     /// Returns from which byte on the element with this id is filled in late. `None`: it is not.
-    pub fn zeros_from(&self, id: u8) -> Option<usize>
+    pub(crate) fn zeros_from(&self, id: u8) -> Option<usize>
         ensures { result ≡ zeros_from self.now id }
     {
         if is_id(self.transport_number, id)
@@ -193,7 +193,7 @@ fn written(
 /// # Errors
 ///
 /// Out of memory.
-pub fn plain_bytes(
+pub(crate) fn plain_bytes(
     alloc: Global,
     late: &LateIds,
     packet: &RtpPacket<'_>,
