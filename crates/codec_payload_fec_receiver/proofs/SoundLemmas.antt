@@ -1,13 +1,13 @@
 -- What a receiver holds was sent.
-use Rattle.std.proofs.Common.{◌≡◌, ◌⊎◌, ℕ, zero, suc, ◌+◌, ◌-◌, ◌%◌, ◌<◌, ◌≤◌, Bool, true, false, cond, eqb, leb, ltb, max, List, [], ◌∷◌, ◌++◌, drop, get_or, length, map, replicate, set, take, Option, Some, None, Result, Ok, Err, refl, sym, ap, subst, ◌∙◌, inl, inr, arith}
+use Rattle.std.proofs.Common.{◌≡◌, ℕ, zero, suc, ◌+◌, ◌-◌, ◌%◌, ◌<◌, ◌≤◌, Bool, true, false, cond, eqb, leb, ltb, max, List, [], ◌∷◌, ◌++◌, get_or, length, map, replicate, set, Option, Some, None, Result, Ok, Err, refl, sym, ap, subst, ◌∙◌, inl, inr, arith}
 use Rattle.std.specs.Prelude.{IfSome}
 use Rattle.std.specs.List.{remove}
-use Rattle.std.proofs.lemmas.Bool.{eqb-true, ltb-true, ltb-false}
+use Rattle.std.proofs.lemmas.Bool.{eqb-true, ltb-true}
 use Rattle.codec_payload_rtp.specs.RtpPackets.{Packet}
 use Rattle.codec_payload_rtp.specs.RtpReading.{rtp_at}
 use Rattle.codec_payload_fec.specs.Fec.{Fec}
 use Rattle.codec_payload_fec.specs.FecReading.{fec_at}
-use Rattle.codec_payload_fec.specs.Protecting.{AllCameOrLost, AreOfStream, CameOrLost, IsAmong, IsOfStream, Protects}
+use Rattle.codec_payload_fec.specs.Protecting.{AllCameOrLost, AreOfStream, CameOrLost, IsAmong, IsOfStream}
 use Rattle.codec_payload_fec.specs.Rebuilding.{found_in, matching, rebuilt, to_list}
 use Rattle.codec_payload_fec.specs.Stores.{Store, kept, no_slots}
 use Rattle.codec_payload_fec.specs.Strings.{number_of}
@@ -16,9 +16,9 @@ use Rattle.codec_payload_fec.proofs.ProtectLemmas.{rebuilds_packets}
 use Rattle.codec_payload_fec_receiver.specs.Contents.{Content, Nothing, Media, content_of}
 use Rattle.codec_payload_fec_receiver.specs.Contents.{Fec as FecIn}
 use Rattle.codec_payload_fec_receiver.specs.Late.{plain_bytes}
-use Rattle.codec_payload_fec_receiver.specs.Runs.{AreOfSender, Call, HandedOutWasSent, HoldsNothing, IsFec, IsFecIf, IsMadeFrom, IsMedia, IsNear, IsOfSender, IsSender, WasSentNear, WereSent, WereSentNear, handed_out, raised}
+use Rattle.codec_payload_fec_receiver.specs.Runs.{AreOfSender, Call, HandedOutWasSent, HoldsNothing, IsFecIf, IsMadeFrom, IsMedia, IsNear, IsOfSender, IsSender, WasSentNear, WereSent, WereSentNear, handed_out, raised}
 use Rattle.codec_payload_fec_receiver.specs.Runs.Call.{Passes, Takes, Lacks}
-use Rattle.codec_payload_fec_receiver.specs.States.{OpenFec, State, Tried, after_tries, emptied, entered, fec_at_place, first_due, handed_at, handed_if, is_within, judged, latest, marked, next_of, rebuilt_by, received, stale, took, took_fec, tried, tried_at, verdict_on, waiting, with_fec, with_packet, with_small, without}
+use Rattle.codec_payload_fec_receiver.specs.States.{OpenFec, State, after_tries, emptied, entered, fec_at_place, first_due, handed_at, handed_if, is_within, judged, latest, marked, next_of, rebuilt_by, received, stale, took, took_fec, tried, tried_at, verdict_on, waiting, with_fec, with_packet, with_small, without}
 use Rattle.codec_payload_fec_receiver.specs.declared.content.FecSettings.{FecSettings}
 use Rattle.codec_payload_fec_receiver.specs.declared.fec_receiver.Verdict.{Verdict}
 use Rattle.codec_payload_fec_receiver.specs.declared.fec_receiver.Verdict.TheVariants as verdicts
@@ -66,18 +66,56 @@ beyond_is n early = omega (arith, early)
 start_is : (n first : ℕ) → first < 65536 → 65536 ≤ n → first ≡ (n - (n % 65536 + 65536 - first) % 65536) % 65536
 start_is n first small early = omega (arith, small, early)
 
+-- ---- the window stays
+
+verdict_first : (n place : ℕ) (s : State) (v : Verdict) → ((t : State) → (tried n t).state.first ≡ t.first) → (judged (tried n) place s v).state.first ≡ s.first
+verdict_first n place s verdicts.Ready later = refl
+verdict_first n place s verdicts.Waits later = later (waiting place s)
+verdict_first n place s verdicts.Useless later = later (without place s)
+
+due_first : (n : ℕ) (s : State) (o : Option ℕ) → ((t : State) → (tried n t).state.first ≡ t.first) → (tried_at (tried n) o s).state.first ≡ s.first
+due_first n s None later = refl
+due_first n s (Some place) later = verdict_first n place s (verdict_on (found_in s.store.slots) (fec_at (fec_at_place place s).bytes)) later
+
+tries_first : (n : ℕ) (s : State) → (tried n s).state.first ≡ s.first
+unfolding tried
+tries_first zero s = refl
+tries_first (suc n) s = due_first n s (first_due s.fecs) (tries_first n)
+
+fresh_first : (b : Bool) (s : State) → (cond b (tried 4 s).state s).first ≡ s.first
+fresh_first true s = tries_first 4 s
+fresh_first false s = refl
+
+after_first : (s : State) → (after_tries s).first ≡ s.first
+after_first s = fresh_first s.is_fresh s
+
+kept_first : (place : ℕ) (s : State) (o : Option (List ℕ)) → (handed_at place s o).state.first ≡ s.first
+kept_first place s None = refl
+kept_first place s (Some p) = refl
+
+handed_first : (o : Option ℕ) (s : State) → (handed_if o s).state.first ≡ s.first
+handed_first None s = refl
+handed_first (Some place) s = kept_first place s (rebuilt_by s (fec_at (fec_at_place place s).bytes))
+
+next_first : (b : Bool) (s : State) → (cond b (handed_if (tried 4 s).ready (tried 4 s).state) (record { packet = None; state = s })).state.first ≡ s.first
+next_first true s = handed_first (tried 4 s).ready (tried 4 s).state ∙ tries_first 4 s
+next_first false s = refl
+
+first_kept : (s : State) → (next_of s).state.first ≡ s.first
+first_kept s = next_first s.is_fresh s
+
 -- ---- what was sent
 
 module _ (sent : ℕ → Option (List ℕ)) where
   -- a packet that may be held while the window begins at a
-  IsHeld : ℕ → List ℕ → Type 0
+  abbrev IsHeld : ℕ → List ℕ → Type 0
   IsHeld a p = (n : ℕ) × (sent n ≡ Some p) × (a ≤ n + 8192) × (n < a + 40960)
 
-  IsMade : ℕ → Result Fec FecFault → Type 0
+  abbrev IsMade : ℕ → Result Fec FecFault → Type 0
   IsMade a (Ok f) = (n : ℕ) × (a ≤ n) × (n < a + 32768) × IsMadeFrom sent n f
   IsMade a (Err fault) = Unit {0}
 
-  AllMade : ℕ → List OpenFec → Type 0
+  abbrev AllMade : ℕ → List OpenFec → Type 0
   AllMade a [] = Unit {0}
   AllMade a (o ∷ os) = IsMade a (fec_at o.bytes) × AllMade a os
 
@@ -191,19 +229,19 @@ module _ (sent : ℕ → Option (List ℕ)) where
   stale_holds : (ss : FecSettings) (a : ℕ) (s : State) → Holds ss a s → Holds ss a (stale s)
   stale_holds ss a s h = record { settings = h.settings; held = h.held; fecs = h.fecs }
 
+  by_verdict : (ss : FecSettings) (a n place : ℕ) (s : State) (v : Verdict) → ((t : State) → Holds ss a t → Holds ss a (tried n t).state) → Holds ss a s → Holds ss a (judged (tried n) place s v).state
+  by_verdict ss a n place s verdicts.Ready later h = h
+  by_verdict ss a n place s verdicts.Waits later h = later (waiting place s) (waits_holds ss a place s h)
+  by_verdict ss a n place s verdicts.Useless later h = later (without place s) (without_holds ss a place s h)
+
+  at_due : (ss : FecSettings) (a n : ℕ) (s : State) (o : Option ℕ) → ((t : State) → Holds ss a t → Holds ss a (tried n t).state) → Holds ss a s → Holds ss a (tried_at (tried n) o s).state
+  at_due ss a n s None later h = h
+  at_due ss a n s (Some place) later h = by_verdict ss a n place s (verdict_on (found_in s.store.slots) (fec_at (fec_at_place place s).bytes)) later h
+
   tried_holds : (ss : FecSettings) (a n : ℕ) (s : State) → Holds ss a s → Holds ss a (tried n s).state
   unfolding tried
   tried_holds ss a zero s h = h
-  tried_holds ss a (suc n) s h = at (first_due s.fecs)
-    where
-      by_verdict : (place : ℕ) (v : Verdict) → Holds ss a (judged (tried n) place s v).state
-      by_verdict place verdicts.Ready = h
-      by_verdict place verdicts.Waits = tried_holds ss a n (waiting place s) (waits_holds ss a place s h)
-      by_verdict place verdicts.Useless = tried_holds ss a n (without place s) (without_holds ss a place s h)
-
-      at : (o : Option ℕ) → Holds ss a (tried_at (tried n) o s).state
-      at None = h
-      at (Some place) = by_verdict place (verdict_on (found_in s.store.slots) (fec_at (fec_at_place place s).bytes))
+  tried_holds ss a (suc n) s h = at_due ss a n s (first_due s.fecs) (λ t ht. tried_holds ss a n t ht) h
 
   after_holds : (ss : FecSettings) (a : ℕ) (s : State) → Holds ss a s → Holds ss a (after_tries s)
   after_holds ss a s h = by_fresh s.is_fresh
@@ -252,7 +290,7 @@ module _ (sent : ℕ → Option (List ℕ)) where
     holds : Holds ss a s
 
   -- before the first packet it holds nothing, so any window will do
-  Stands : FecSettings → Option ℕ → State → Type 0
+  abbrev Stands : FecSettings → Option ℕ → State → Type 0
   Stands ss None s = (s.first < 65536) × ((a : ℕ) → Holds ss a s)
   Stands ss (Some h) s = Placed ss h s
 
@@ -283,3 +321,132 @@ module _ (sent : ℕ → Option (List ℕ)) where
     low = omega (arith, early, near);
     high = omega (arith, early, near);
   }
+
+  -- the number is within the window, or begins another one
+  enters_first : (ss : FecSettings) (number : ℕ) (s : State) (b : Bool) → is_within s.first (number % 65536) ≡ b → 65536 ≤ number → s.first < 65536 → ((a : ℕ) → Holds ss a s)
+      → Enters ss number number (cond b s (record (emptied s) { first = (number % 65536 + 49152) % 65536 }))
+  enters_first ss number s true is early small h =
+      let d : ℕ = (number % 65536 + 65536 - s.first) % 65536 in
+      let near : d < 32768 = ltb-true d 32768 is in
+      record {
+        placed = record { a = number - d; low = omega (arith, near); high = omega (arith, near, early); early = early; first = start_is number s.first small early; holds = h (number - d) };
+        low = omega (arith, near);
+        high = omega (arith, near, early);
+      }
+  enters_first ss number s false is early small h = begins ss number number s (h 0).settings early (omega arith) (omega arith)
+
+  enters_next : (ss : FecSettings) (highest number : ℕ) (s : State) (b : Bool) → is_within s.first (number % 65536) ≡ b → number < highest + 16384 → highest < number + 16384 → Placed ss highest s
+      → Enters ss (max highest number) number (cond b s (record (emptied s) { first = (number % 65536 + 49152) % 65536 }))
+  enters_next ss highest number s true is near near' h =
+      let d : ℕ → ℕ = λ f. (number % 65536 + 65536 - f) % 65536 in
+      let close : d (h.a % 65536) < 32768 = ltb-true (d (h.a % 65536)) 32768 (ap (λ (f : ℕ). ltb (d f) 32768) (sym h.first) ∙ is) in
+      let within = within_is h.a number highest h.low h.high near near' close in
+      record {
+        placed = record { a = h.a; low = omega (arith, h.low, within); high = omega (arith, h.high, within); early = omega (arith, h.early); first = h.first; holds = h.holds };
+        low = within.0;
+        high = within.1;
+      }
+  enters_next ss highest number s false is near near' h = begins ss (max highest number) number s h.holds.settings (omega (arith, h.early)) (omega arith) (omega (arith, near'))
+
+  -- a number is entered
+  record Entered (ss : FecSettings) (top : Option ℕ) (number : ℕ) (s : State) : Type 0 where
+    highest : ℕ
+    is : top ≡ Some highest
+    enters : Enters ss highest number s
+
+  entered_is : (ss : FecSettings) (before : Option ℕ) (number : ℕ) (s : State) → IsNear before number → Stands ss before s → Entered ss (raised before number) number (entered (number % 65536) s)
+  entered_is ss None number s near h = record { highest = number; is = refl; enters = enters_first ss number s (is_within s.first (number % 65536)) refl near h.0 h.1 }
+  entered_is ss (Some highest) number s near h =
+      record { highest = max highest number; is = refl; enters = enters_next ss highest number s (is_within s.first (number % 65536)) refl near.0 near.1 h }
+
+  stands_at : (ss : FecSettings) (highest : ℕ) (top : Option ℕ) (s : State) → top ≡ Some highest → Placed ss highest s → Stands ss top s
+  stands_at ss highest top s is h = let P : Option ℕ → Type 0 = λ o. Stands ss o s in subst P (sym is) h
+
+  -- what is taken
+  fresh_stands : (ss : FecSettings) (top : Option ℕ) (s : State) → Stands ss top s → Stands ss top (record s { is_fresh = true })
+  fresh_stands ss None s h = (h.0, λ a. record { settings = (h.1 a).settings; held = (h.1 a).held; fecs = (h.1 a).fecs })
+  fresh_stands ss (Some highest) s h = record { a = h.a; low = h.low; high = h.high; early = h.early; first = h.first; holds = record { settings = h.holds.settings; held = h.holds.held; fecs = h.holds.fecs } }
+
+  media_stands : (ss : FecSettings) (p : Packet) (before after : Option ℕ) (s : State) → s.settings ≡ ss → IsMedia ss sent p before after → Stands ss before s → Stands ss after (took (Media p) s)
+  media_stands ss p before after s same m h =
+      let e = entered_is ss before m.number s m.near h in
+      let placed = e.enters.placed in
+      let packet : List ℕ = plain_bytes ss.late_ids p in
+      let held : IsHeld placed.a packet = (m.number, m.was_sent, omega (arith, e.enters.low), omega (arith, e.enters.high)) in
+      let t : State = entered (m.number % 65536) s in
+      let kept : Placed ss e.highest (with_packet (m.number % 65536) packet t) =
+      record { a = placed.a; low = placed.low; high = placed.high; early = placed.early; first = placed.first; holds = kept_holds ss placed.a (m.number % 65536) packet t held placed.holds } in
+      let By : ℕ → FecSettings → Type 0 = λ n settings. Placed ss e.highest (with_packet n (plain_bytes settings.late_ids p) (entered n s)) in
+      let at : By p.header.sequence_number s.settings = subst (λ (n : ℕ). By n s.settings) (sym m.numbered) (subst (By (m.number % 65536)) (sym same) kept) in
+      stands_at ss e.highest after (took (Media p) s) (m.raises ∙ e.is) at
+
+  small_holds : (ss : FecSettings) (h : ℕ) (bytes : List ℕ) (s : State) (b : Bool) → (placed : Placed ss h s) → IsMade placed.a (fec_at bytes) → Placed ss h (with_small b bytes s)
+  small_holds ss h bytes s true placed made =
+      record { a = placed.a; low = placed.low; high = placed.high; early = placed.early; first = placed.first; holds = fec_holds ss placed.a bytes s made placed.holds }
+  small_holds ss h bytes s false placed made = placed
+
+  fec_stands : (ss : FecSettings) (bytes : List ℕ) (r : Result Fec FecFault) (before after : Option ℕ) (s : State) → fec_at bytes ≡ r → IsFecIf sent r before after → Stands ss before s → Stands ss after (took_fec bytes r s)
+  fec_stands ss bytes (Err fault) before after s e is h = let P : Option ℕ → Type 0 = λ o. Stands ss o s in subst P (sym is) h
+  fec_stands ss bytes (Ok f) before after s e is h =
+      let en = entered_is ss before is.number s is.near h in
+      let placed = en.enters.placed in
+      let t : State = entered (is.number % 65536) s in
+      let Made : Result Fec FecFault → Type 0 = IsMade placed.a in
+      let made : IsMade placed.a (fec_at bytes) = subst Made (sym e) (is.number, en.enters.low, en.enters.high, is.is_made) in
+      let kept : Placed ss en.highest (with_small (leb (length bytes - 6) s.store.largest) bytes t) = small_holds ss en.highest bytes t (leb (length bytes - 6) s.store.largest) placed made in
+      let By : ℕ → Type 0 = λ n. Placed ss en.highest (with_small (leb (length bytes - 6) s.store.largest) bytes (entered n s)) in
+      stands_at ss en.highest after (took_fec bytes (Ok f) s) (is.raises ∙ en.is) (subst By (sym is.is_made.base) kept)
+
+  settings_stand : (ss : FecSettings) (top : Option ℕ) (s : State) → Stands ss top s → s.settings ≡ ss
+  settings_stand ss None s h = (h.1 0).settings
+  settings_stand ss (Some highest) s h = h.holds.settings
+
+  took_stands : (ss : FecSettings) (content : Content) (before after : Option ℕ) (s : State) → IsOfSender ss sent content before after → Stands ss before s → Stands ss after (took content s)
+  took_stands ss Nothing before after s is h = let P : Option ℕ → Type 0 = λ o. Stands ss o s in subst P (sym is) h
+  took_stands ss (Media p) before after s is h = media_stands ss p before after s (settings_stand ss before s h) is h
+  took_stands ss (FecIn bytes) before after s is h = fec_stands ss bytes (fec_at bytes) before after s refl is h
+
+  received_stands : (ss : FecSettings) (datagram : List ℕ) (before after : Option ℕ) (s : State) → IsOfSender ss sent (content_of ss (rtp_at datagram)) before after → Stands ss before s → Stands ss after (received datagram s)
+  received_stands ss datagram before after s is h =
+      let By : FecSettings → Type 0 = λ settings. Stands ss after (took (content_of settings (rtp_at datagram)) s) in
+      fresh_stands ss after (took (content_of s.settings (rtp_at datagram)) s) (subst By (sym (settings_stand ss before s h)) (took_stands ss (content_of ss (rtp_at datagram)) before after s is h))
+
+  -- ---- calls
+
+  next_stands : (ss : FecSettings) (top : Option ℕ) (s : State) → IsSender ss.ssrc sent → Stands ss top s → Stands ss top (next_of s).state
+  next_stands ss None s is h = (let P : ℕ → Type 0 = λ n. n < 65536 in subst P (sym (first_kept s)) h.0, λ a. (next_holds ss a s is (h.1 a)).holds)
+  next_stands ss (Some highest) s is h =
+      record { a = h.a; low = h.low; high = h.high; early = h.early; first = first_kept s ∙ h.first; holds = (next_holds ss h.a s is h.holds).holds }
+
+  after_stands : (ss : FecSettings) (top : Option ℕ) (s : State) → Stands ss top s → Stands ss top (after_tries s)
+  after_stands ss None s h = (let P : ℕ → Type 0 = λ n. n < 65536 in subst P (sym (after_first s)) h.0, λ a. after_holds ss a s (h.1 a))
+  after_stands ss (Some highest) s h = record { a = h.a; low = h.low; high = h.high; early = h.early; first = after_first s ∙ h.first; holds = after_holds ss h.a s h.holds }
+
+  packet_sent : (a : ℕ) (o : Option (List ℕ)) → IfSome o (IsHeld a) → WereSent sent (to_list o)
+  packet_sent a None h = tt
+  packet_sent a (Some p) h = ((h.0, h.1), tt)
+
+  next_sent : (ss : FecSettings) (top : Option ℕ) (s : State) → IsSender ss.ssrc sent → Stands ss top s → WereSent sent (to_list (next_of s).packet)
+  next_sent ss None s is h = packet_sent 0 (next_of s).packet (next_holds ss 0 s is (h.1 0)).packet
+  next_sent ss (Some highest) s is h = packet_sent h.a (next_of s).packet (next_holds ss h.a s is h.holds).packet
+
+  sent_append : (ps qs : List (List ℕ)) → WereSent sent ps → WereSent sent qs → WereSent sent (ps ++ qs)
+  sent_append [] qs h h' = h'
+  sent_append (p ∷ ps) qs h h' = (h.0, sent_append ps qs h.1 h')
+
+  all_sent : (ss : FecSettings) (top : Option ℕ) (calls : List Call) (s : State) → IsSender ss.ssrc sent → Stands ss top s → AreOfSender ss sent top calls → WereSent sent (handed_out calls s)
+  all_sent ss top [] s is h are = tt
+  all_sent ss top (Passes datagram ∷ calls) s is h are = all_sent ss are.0 calls (received datagram s) is (received_stands ss datagram top are.0 s are.1 h) are.2
+  all_sent ss top (Takes ∷ calls) s is h are =
+      sent_append (to_list (next_of s).packet) (handed_out calls (next_of s).state) (next_sent ss top s is h) (all_sent ss top calls (next_of s).state is (next_stands ss top s is h) are)
+  all_sent ss top (Lacks ∷ calls) s is h are = all_sent ss top calls (after_tries s) is (after_stands ss top s h) are
+
+nothing_holds : (sent : ℕ → Option (List ℕ)) (a : ℕ) (s : State) → HoldsNothing s → Holds sent s.settings a s
+nothing_holds sent a s h = record {
+  settings = refl;
+  held = λ n. let P : Option (List ℕ) → Type 0 = λ o. IfSome o (IsHeld sent a) in subst P (sym (h.none_kept n)) tt;
+  fecs = let P : List OpenFec → Type 0 = λ os. AllMade sent a os in subst P (sym h.no_fecs) tt;
+}
+
+pub handed_out_was_sent : HandedOutWasSent
+handed_out_was_sent sent s calls is h are = all_sent sent s.settings None calls s is (h.is_number, λ a. nothing_holds sent a s h) are
