@@ -1,3 +1,4 @@
 pub mod HeldLemmas
 pub mod LateLemmas
+pub mod OwnLemmas
 pub mod SoundLemmas
