@@ -1,7 +1,7 @@
 """Where the modules of the proved crates go in the one crate of plain Rust."""
 
 # The crates of the library, each after the crates that it uses.
-LIBRARY = ["base", "audio", "vp8", "vp9", "av1", "red", "rtp", "sending_red", "rtcp", "feedback_congestion", "sending_history", "sending_forward", "syntax", "vpx", "descriptor", "media", "keyframes", "feedback_requests", "feedback", "feedback_transport", "feedback_ccfb", "feedback_xr", "fec", "feedback_wait", "feedback_freezes", "bandwidth_pacer", "bandwidth_layers", "bandwidth_estimate", "bandwidth_estimator", "bandwidth_path", "bandwidth", "layers", "edges", "index", "queue", "references", "codec", "contiguity", "metadata", "buffer", "numbers", "jitter", "datagrams", "receiver", "stream_edges", "session_formats", "session_requests", "session_stream", "session", "sending",
+LIBRARY = ["base", "audio", "vp8", "vp9", "av1", "red", "rtp", "sending_red", "rtcp", "feedback_congestion", "sending_history", "sending_forward", "syntax", "vpx", "descriptor", "media", "keyframes", "feedback_requests", "feedback", "feedback_transport", "feedback_ccfb", "feedback_xr", "fec", "fec_receiver", "feedback_wait", "feedback_freezes", "bandwidth_pacer", "bandwidth_layers", "bandwidth_estimate", "bandwidth_estimator", "bandwidth_path", "bandwidth", "layers", "edges", "index", "queue", "references", "codec", "contiguity", "metadata", "buffer", "numbers", "jitter", "datagrams", "receiver", "stream_edges", "session_formats", "session_requests", "session_stream", "session", "sending",
            "payloader", "buffer_runs", "datagram_runs", "forward_runs", "session_runs", "server_runs"]
 # Runs that do the same as those of `datagram_runs`, with one more clause; theorems alone.
 NOT_HERE = {"session_units", "timely_runs"}
@@ -10,11 +10,12 @@ C_LIBRARY = {"handle": "handle", "c_packets": "packets", "c_path": "path", "c_re
 # Names the users' modules of the library again.
 FACADE = "core"
 # The module below which a crate's modules go. Modules of all other crates go to the root.
-PLACES = {"index": "index", "metadata": "metadata", "queue": "queue", "syntax": "syntax", "rtp": "rtp", "rtcp": "rtcp", "feedback_congestion": "congestion", "vpx": "media::vpx", "descriptor": "descriptor", "media": "media", "keyframes": "keyframes", "references": "frame_notes", "sending_history": "history", "sending_forward": "forward", "feedback_requests": "requests", "feedback": "feedback", "feedback_transport": "transport", "feedback_ccfb": "ccfb", "feedback_xr": "xr", "fec": "fec", "feedback_wait": "waiting", "feedback_freezes": "freezes", "bandwidth": "bandwidth", "layers": "layers", "edges": "edges", "stream_edges": "stream_edges", "jitter": "jitter", "receiver": "stream", "session": "session", "payloader": "payload",
+PLACES = {"index": "index", "metadata": "metadata", "queue": "queue", "syntax": "syntax", "rtp": "rtp", "rtcp": "rtcp", "feedback_congestion": "congestion", "vpx": "media::vpx", "descriptor": "descriptor", "media": "media", "keyframes": "keyframes", "references": "frame_notes", "sending_history": "history", "sending_forward": "forward", "feedback_requests": "requests", "feedback": "feedback", "feedback_transport": "transport", "feedback_ccfb": "ccfb", "feedback_xr": "xr", "fec_receiver": "fec", "feedback_wait": "waiting", "feedback_freezes": "freezes", "bandwidth": "bandwidth", "layers": "layers", "edges": "edges", "stream_edges": "stream_edges", "jitter": "jitter", "receiver": "stream", "session": "session", "payloader": "payload",
           "buffer_runs": "schedule", "datagram_runs": "schedule::datagrams", "forward_runs": "schedule::forwarded", "session_runs": "session::runs", "server_runs": "schedule::served"}
 # Crates below others whose modules stand among those of a crate above: for each module, that crate.
 HOMES = {"bandwidth_pacer": {"pacer": "bandwidth", "resends": "bandwidth"}, "bandwidth_layers": {"chooser": "bandwidth"},
          "bandwidth_estimate": {"arrivals": "bandwidth", "delays": "bandwidth", "losses": "bandwidth", "rate": "bandwidth"}, "bandwidth_estimator": {"estimator": "bandwidth"}, "bandwidth_path": {"departures": "bandwidth", "path": "bandwidth"},
+         "fec": {"packet": "fec_receiver", "rebuilding": "fec_receiver", "store": "fec_receiver", "strings": "fec_receiver", "writing": "fec_receiver"},
          "numbers": {"noted_times": "jitter", "numbers": "jitter", "seen_times": "receiver", "statistics": "receiver", "windows": "receiver"},
          "datagrams": {"choice": "receiver", "kinds": "receiver", "parsed": "receiver"},
          "session_formats": {"checks": "session", "formats": "session", "names": "session", "sort": "session", "tick_rate": "session"},
@@ -58,7 +59,7 @@ RENAMED_MODULES = {("rtp", "rtp"): "packet", ("jitter", "jitter"): "jitter_buffe
 # Types with another name in the one crate, since another type has theirs: crate, module, name.
 RENAMED_TYPES = {("receiver", "receiver", "Settings"): "ReceiverSettings"}
 # Crates whose public modules are hidden: what they hold is public in the module above them.
-FLAT = {"rtp", "rtcp", "feedback_congestion", "sending_history", "sending_forward", "vpx", "descriptor", "media", "keyframes", "references", "feedback_requests", "feedback", "feedback_transport", "feedback_ccfb", "feedback_xr", "fec", "feedback_wait", "feedback_freezes", "bandwidth", "layers", "edges", "stream_edges", "jitter", "receiver", "session", "datagram_runs", "forward_runs", "session_runs", "server_runs"}
+FLAT = {"rtp", "rtcp", "feedback_congestion", "sending_history", "sending_forward", "vpx", "descriptor", "media", "keyframes", "references", "feedback_requests", "feedback", "feedback_transport", "feedback_ccfb", "feedback_xr", "fec_receiver", "feedback_wait", "feedback_freezes", "bandwidth", "layers", "edges", "stream_edges", "jitter", "receiver", "session", "datagram_runs", "forward_runs", "session_runs", "server_runs"}
 # Modules that are left out of the documentation of the one crate: runs are there for its tests alone.
 UNDOCUMENTED_MODULES = {"session::runs"}
 # Public functions that are left out of it too, since only other modules and ports of `str0m` call them.

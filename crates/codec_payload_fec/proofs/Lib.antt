@@ -3,12 +3,12 @@ mod FecGrammar
 mod FecWriting
 mod GroupLemmas
 mod MadeLemmas
-mod ProtectLemmas
+pub mod ProtectLemmas
 mod PutLemmas
 mod RebuildLemmas
 mod StoreLemmas
 mod SumLemmas
 pub mod XorLemmas
 mod WholeSums
-mod WriterLemmas
+pub mod WriterLemmas
 mod XorTotals

@@ -3,7 +3,7 @@ use Rattle.std.proofs.Common.{◌≡◌, ℕ, zero, suc, ◌+◌, ◌-◌, ◌<�
 use Rattle.std.specs.Prelude.{option_to_list, is_some}
 use Rattle.std.proofs.lemmas.List.{append-nil}
 use Rattle.codec_payload_fec.specs.Fec.{Fec, if_set, is_set, mask_of, number_at, numbers, numbers_in}
-use Rattle.codec_payload_fec.specs.Rebuilding.{found_of, missing_of, only, to_list}
+use Rattle.codec_payload_fec.specs.Rebuilding.{are_none, found_of, missing_of, only, to_list}
 use Rattle.codec_payload_fec.specs.Strings.{BitString, added, added_all}
 
 pub numbers_none : (mask base : ℕ) → numbers_in 0 mask base ≡ []
@@ -68,6 +68,17 @@ module _ (find : ℕ → Option (List ℕ)) (n mask base : ℕ) where
       → None ≡ only (missing_of find (numbers_in 48 mask base))
   missing_twice None b is small e h = absurd cc
   missing_twice (Some a) b is small e h = sym (missing_two a b small e h)
+
+  -- a number is missing
+  pub missing_some : (b : ℕ) → n < 48 → [] ≡ missing_of find (numbers_in n mask base) → b ∷ [] ≡ missing_of find (if_set (is_set n mask) (number_at n base))
+      → are_none (missing_of find (numbers_in 48 mask base)) ≡ false
+  missing_some b small e h =
+      let front = numbers_front (47 - n) (n + 1) mask base in
+      let place : (n + 1) + (47 - n) ≡ 48 = omega (arith, small) in
+      let one : missing_of find (numbers_in (n + 1) mask base) ≡ b ∷ [] = sym (missing_more None (Some b) e h) in
+      let all : missing_of find (numbers_in 48 mask base) ≡ b ∷ missing_of find front.0 =
+      ap (λ (k : ℕ). missing_of find (numbers_in k mask base)) (sym place) ∙ ap (missing_of find) front.1 ∙ missing_append find (numbers_in (n + 1) mask base) front.0 ∙ ap (λ (ns : List ℕ). ns ++ missing_of find front.0) one in
+      ap are_none all
 
 -- one number was missing at most
 pub missing_once : (before : Option ℕ) (number : ℕ) → is_some before ≡ false → number ∷ [] ≡ option_to_list before ++ number ∷ []

@@ -85,7 +85,7 @@ protects count n group are =
 
 -- ---- all packets
 
-abbrev AreAmong : List (List ℕ) → List (List ℕ) → Type 0
+abbrev pub AreAmong : List (List ℕ) → List (List ℕ) → Type 0
 AreAmong [] qs = Unit {0}
 AreAmong (p ∷ ps) qs = IsAmong p qs × AreAmong ps qs
 
@@ -136,10 +136,10 @@ among_all p (q ∷ ps) qs (inl is) all = subst (λ (x : List ℕ). IsAmong x qs)
 among_all p (q ∷ ps) qs (inr h) all = among_all p ps qs h all.1
 
 -- a packet of FEC was made from some of these packets
-record IsMade (f : Fec) (qs : List (List ℕ)) : Type 0 where
-  packets : List (List ℕ)
-  are : AreAmong packets qs
-  is : Protects f packets
+pub record IsMade (f : Fec) (qs : List (List ℕ)) : Type 0 where
+  pub packets : List (List ℕ)
+  pub are : AreAmong packets qs
+  pub is : Protects f packets
 
 among_take : (p : List ℕ) (size : ℕ) (qs : List (List ℕ)) → IsAmong p (take size qs) → IsAmong p qs
 among_take p zero qs h = absurd h
@@ -196,7 +196,7 @@ first_taken : (p : List ℕ) (ps : List (List ℕ)) (size : ℕ) → 1 ≤ size 
 first_taken p ps zero h = absurd (omega (arith, h))
 first_taken p ps (suc size) h = refl
 
-made_in : (m protection ssrc : ℕ) (f : Fec) (qs : List (List ℕ)) → AreOfStream ssrc qs → IsOneOf f (fecs_in m protection qs) → IsMade f qs
+pub made_in : (m protection ssrc : ℕ) (f : Fec) (qs : List (List ℕ)) → AreOfStream ssrc qs → IsOneOf f (fecs_in m protection qs) → IsMade f qs
 unfolding fecs_in
 made_in zero protection ssrc f qs are h = absurd h
 made_in (suc m) protection ssrc f [] are h = absurd h

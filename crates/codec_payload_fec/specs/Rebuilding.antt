@@ -1,5 +1,5 @@
 -- What a packet of FEC and the packets that came rebuild (RFC 5109, section 9).
-use Rattle.std.specs.Prelude.{ℕ, ◌+◌, ◌%◌, ◌==◌, nat_lt, if◌then◌else◌, List, [], ◌∷◌, ◌++◌, length, take, slice_index_or, Option, Some, None, is_ok}
+use Rattle.std.specs.Prelude.{ℕ, ◌+◌, ◌%◌, ◌==◌, nat_lt, if◌then◌else◌, Bool, true, false, List, [], ◌∷◌, ◌++◌, length, take, slice_index_or, Option, Some, None, is_ok}
 use Rattle.std.specs.Int.{w16, w32, to_be_bytes}
 use Rattle.codec_payload_rtp.specs.RtpReading.{rtp_at}
 use Rattle.codec_payload_fec.specs.Fec.{Fec, numbers}
@@ -32,6 +32,10 @@ to_list (Some p) = p ∷ []
 abbrev pub found_of : (ℕ → Option (List ℕ)) → List ℕ → List (List ℕ)
 found_of find [] = []
 found_of find (n ∷ ns) = to_list (find n) ++ found_of find ns
+
+abbrev pub are_none : List ℕ → Bool
+are_none [] = true
+are_none (n ∷ ns) = false
 
 -- the only element of a list
 abbrev pub only : List ℕ → Option ℕ

@@ -16,6 +16,10 @@ abbrev pub slots_of : List (Option (Vec ℕ)) → List (Option (List ℕ))
 slots_of [] = []
 slots_of (p ∷ ps) = slot_of p ∷ slots_of ps
 
+-- places without packets
+unfoldable pub no_slots : List (Option (List ℕ))
+no_slots = replicate 512 None
+
 abbrev pub no_packets : ℕ → Store
 no_packets bytes = record { slots = replicate 512 None; largest = bytes / 512 }
 

@@ -4,7 +4,7 @@ ghost use Rattle.std.specs.Prelude.{◌≡◌, ◌<◌, IfOk, option_to_list};
 ghost use Rattle.std.specs.Option.{option_map};
 ghost use Rattle.codec_payload_fec.specs.Fec.{if_set, is_set, number_at, numbers};
 ghost use Rattle.codec_payload_fec.specs.FecReading.{fec_of};
-ghost use Rattle.codec_payload_fec.specs.Rebuilding.{found_in, found_of, missing_of, only, rebuilt, sum_in, to_list};
+ghost use Rattle.codec_payload_fec.specs.Rebuilding.{are_none, found_in, found_of, missing_of, only, rebuilt, sum_in, to_list};
 ghost use Rattle.codec_payload_fec.specs.Sums.{sum_of};
 
 use crate::packet::FecPacket;
@@ -73,6 +73,19 @@ impl FecPacket<'_> {
             }
         }
         missing
+    }
+
+    /// Returns whether no protected packet is missing.
+    pub fn is_complete(&self, store: &PacketStore) -> bool
+        ensures { result ≡ are_none (missing_of (found_in store.now.slots) (numbers (fec_of self.now))) }
+    {
+        let mask = self.mask_bits();
+        for place in 0..PLACES {
+            if let Some(_missing) = self.missing_at(place, mask, store) {
+                return false;
+            }
+        }
+        true
     }
 
     /// Returns the exclusive or of this packet's fields and of the bit strings of the packets that came.

@@ -3,7 +3,7 @@
 ghost use Rattle.std.specs.Prelude.{◌≡◌, ◌%◌, ◌==◌, IfOk, None, OnErr, OnOk, length, replicate, slice_index_or, ◌<◌};
 ghost use Rattle.std.specs.Option.{option_map};
 ghost use Rattle.codec_payload_fec.specs.Rebuilding.{found_in, matching};
-ghost use Rattle.codec_payload_fec.specs.Stores.{kept, no_packets, slots_of};
+ghost use Rattle.codec_payload_fec.specs.Stores.{kept, no_packets, no_slots, slots_of};
 ghost use Rattle.codec_payload_fec.specs.Strings.{number_of};
 
 use std::alloc::{AllocError, Global};
@@ -75,6 +75,15 @@ fn empty_slots(alloc: Global) -> Result<Vec<Option<Vec<u8>>>, AllocError>
     Ok(slots)
 }
 
+/// Empties each place.
+fn empty(slots: &mut [Option<Vec<u8>>])
+    ensures { slots.new ≡ replicate (length slots.old) None }
+{
+    for slot in slots.iter_mut() {
+        *slot = None;
+    }
+}
+
 impl PacketStore {
     /// Returns a store without packets. `bytes`: how much memory the packets may take in all. A packet that is larger than the 512th part
     /// of it is not kept.
@@ -118,5 +127,31 @@ impl PacketStore {
         let place = usize::from(number_of(packet)) % KEPT;
         self.slots[place] = Some(copy);
         Ok(())
+    }
+
+    /// Keeps a packet as [`PacketStore::keep`] does, without a copy. Does not allocate.
+    pub fn put(&mut self, packet: Vec<u8>)
+        ensures { self.new ≡ kept packet.items self.old }
+    {
+        let bytes = packet.as_slice();
+        if bytes.len() > self.largest {
+            return;
+        }
+        let place = usize::from(number_of(bytes)) % KEPT;
+        self.slots[place] = Some(packet);
+    }
+
+    /// Returns the largest packet that is kept, in bytes.
+    pub fn largest(&self) -> usize
+        ensures { result ≡ self.now.largest }
+    {
+        self.largest
+    }
+
+    /// Drops all packets. Does not allocate.
+    pub fn clear(&mut self)
+        ensures { self.new ≡ record self.old { slots = no_slots } }
+    {
+        empty(self.slots.as_mut_slice());
     }
 }

@@ -58,6 +58,18 @@ impl FecPacket<'_> {
         missing
     }
 
+    /// Returns whether no protected packet is missing.
+    #[must_use]
+    pub fn is_complete(&self, store: &PacketStore) -> bool {
+        let mask = self.mask_bits();
+        for place in 0..PLACES {
+            if let Some(_missing) = self.missing_at(place, mask, store) {
+                return false;
+            }
+        }
+        true
+    }
+
     /// Returns the exclusive or of this packet's fields and of the bit strings of the packets that came.
     fn sum_with(&self, store: &PacketStore) -> Result<Sum, AllocError> {
         let mask = self.mask_bits();

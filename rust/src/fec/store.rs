@@ -49,6 +49,13 @@ fn empty_slots() -> Result<Vec<Option<Vec<u8>>>, AllocError> {
     Ok(slots)
 }
 
+/// Empties each place.
+fn empty(slots: &mut [Option<Vec<u8>>]) {
+    for slot in slots.iter_mut() {
+        *slot = None;
+    }
+}
+
 impl PacketStore {
     /// Returns a store without packets. `bytes`: how much memory the packets may take in all. A packet that is larger than the 512th part
     /// of it is not kept.
@@ -85,5 +92,26 @@ impl PacketStore {
         let place = usize::from(number_of(packet)) % KEPT;
         self.slots[place] = Some(copy);
         Ok(())
+    }
+
+    /// Keeps a packet as [`PacketStore::keep`] does, without a copy. Does not allocate.
+    pub fn put(&mut self, packet: Vec<u8>) {
+        let bytes = packet.as_slice();
+        if bytes.len() > self.largest {
+            return;
+        }
+        let place = usize::from(number_of(bytes)) % KEPT;
+        self.slots[place] = Some(packet);
+    }
+
+    /// Returns the largest packet that is kept, in bytes.
+    #[must_use]
+    pub fn largest(&self) -> usize {
+        self.largest
+    }
+
+    /// Drops all packets. Does not allocate.
+    pub fn clear(&mut self) {
+        empty(self.slots.as_mut_slice());
     }
 }

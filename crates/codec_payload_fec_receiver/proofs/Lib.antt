@@ -1,0 +1,4 @@
+pub mod HeldLemmas
+pub mod LateLemmas
+pub mod OwnLemmas
+pub mod SoundLemmas
