@@ -1,0 +1,3 @@
+pub mod WholeTurns
+pub mod WholeRuns
+pub mod RunParts
