@@ -1,3 +1,7 @@
 pub mod WholeTurns
 pub mod WholeRuns
 pub mod RunParts
+pub mod RepeatedRequests
+pub mod MissingLemmas
+pub mod AskedCourses
+pub mod ServedGaps

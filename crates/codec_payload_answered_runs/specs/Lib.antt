@@ -1,1 +1,3 @@
 pub mod FilledGaps
+pub mod Repeats
+pub mod AskedRuns
