@@ -123,13 +123,13 @@ module _ (exact : Exact) (on_time : OnTime) (settings : NackSettings) (c : Setti
   filled time now until xs calls later asked j n at (come is) by rise fits came past below = is
   filled time now until xs calls later asked j n at (unseen all none empty serves) by rise fits came past below =
       absurd (omega (arith, all n (came_has n at xs came), below))
-  filled time now until xs calls later asked j n at (seen since i m has over cond before is_open sum serves) by rise fits came past below =
-      let le = cond n at came below in
+  filled time now until xs calls later asked j n at (seen since i m has over holds before is_open sum serves) by rise fits came past below =
+      let le = holds n at came below in
       let soon = allows.soon in
       let more = late exact on_time settings allows.small (c.first + j) slack since calls until k now allows.tries is_open by (omega (arith, le, past, soon)) (omega (arith, fits)) in
       absurd (omega (arith, more, sum))
-  filled time now until xs calls later asked j n at (served since by' cond before soon comes) by rise fits came past below =
-      let le = cond n at came below in
+  filled time now until xs calls later asked j n at (served since by' holds before soon comes) by rise fits came past below =
+      let le = holds n at came below in
       let after = comes_after j by' now later rise comes in
       absurd (omega (arith, le, past, soon, after))
 
@@ -146,8 +146,8 @@ module _ (exact : Exact) (on_time : OnTime) (settings : NackSettings) (c : Setti
   ]
     where
       more : (since : ℕ) → since ≤ time → ((m t : ℕ) → CameAt m t xs → j < m → since ≤ t) → (m t : ℕ) → CameAt m t (record { datagram = n; at = now } ∷ xs) → j < m → since ≤ t
-      more since before cond m t (inl here) below = let is = here.1 in omega (arith, before, rise, is)
-      more since before cond m t (inr old) below = cond m t old below
+      more since before holds m t (inl here) below = let is = here.1 in omega (arith, before, rise, is)
+      more since before holds m t (inr old) below = holds m t old below
 
       fresh : ((m : ℕ) → has_come m xs ≡ true → m < j) → (m t : ℕ) → CameAt m t (record { datagram = n; at = now } ∷ xs) → j < m → now ≤ t
       fresh all m t (inl here) below = let is = here.1 in omega (arith, is)
@@ -165,11 +165,11 @@ module _ (exact : Exact) (on_time : OnTime) (settings : NackSettings) (c : Setti
       by_phase (inr over) (unseen all none empty serves) =
           let within_it = open_first exact on_time settings allows.small (c.first + j) slack now calls (sooner until (now + slack)) none empty (λ t is. inl (sooner_new until (now + slack) t is)) in
           seen now k n (new_has (record { datagram = n; at = now }) n xs refl) over (fresh all) (omega arith) within_it (omega (arith, ap length empty)) serves
-      by_phase side (seen since i m has over cond before is_open sum serves) =
+      by_phase side (seen since i m has over holds before is_open sum serves) =
           let opened = open_sooner exact on_time settings allows.small (c.first + j) slack since calls until (sooner until (now + slack)) (λ t is. sooner_by until (now + slack) t is) is_open in
-          seen since i m (still_has (record { datagram = n; at = now }) m xs has) over (more since before cond) (omega (arith, before, rise)) opened sum serves
-      by_phase side (served since by cond before soon (inl here)) = come (new_has (record { datagram = n; at = now }) j xs here.0)
-      by_phase side (served since by cond before soon (inr rest)) = served since by (more since before cond) (omega (arith, before, rise)) soon rest
+          seen since i m (still_has (record { datagram = n; at = now }) m xs has) over (more since before holds) (omega (arith, before, rise)) opened sum serves
+      by_phase side (served since by holds before soon (inl here)) = come (new_has (record { datagram = n; at = now }) j xs here.0)
+      by_phase side (served since by holds before soon (inr rest)) = served since by (more since before holds) (omega (arith, before, rise)) soon rest
 
   -- After an answer
 
@@ -177,9 +177,9 @@ module _ (exact : Exact) (on_time : OnTime) (settings : NackSettings) (c : Setti
       → Phase time until xs calls (Hears now number ∷ later) asked j → Phase time until xs (answered now number ∷ calls) later asked j
   answered_phase time now number until xs calls later asked j (come is) = come is
   answered_phase time now number until xs calls later asked j (unseen all none empty serves) = unseen all none empty serves
-  answered_phase time now number until xs calls later asked j (seen since i m has over cond before is_open sum serves) =
-      seen since i m has over cond before (open_answered exact on_time settings allows.small (c.first + j) slack since now number calls until is_open) sum serves
-  answered_phase time now number until xs calls later asked j (served since by cond before soon comes) = served since by cond before soon comes
+  answered_phase time now number until xs calls later asked j (seen since i m has over holds before is_open sum serves) =
+      seen since i m has over holds before (open_answered exact on_time settings allows.small (c.first + j) slack since now number calls until is_open) sum serves
+  answered_phase time now number until xs calls later asked j (served since by holds before soon comes) = served since by holds before soon comes
 
   -- A pop and a send
 
@@ -187,9 +187,9 @@ module _ (exact : Exact) (on_time : OnTime) (settings : NackSettings) (c : Setti
       → ((by : ℕ) → ComesBy j by (Does step ∷ later) → ComesBy j by later) → Phase time until xs calls (Does step ∷ later) asked j → Phase now until xs calls later asked j
   other_phase time now until xs calls step later asked j rise less (come is) = come is
   other_phase time now until xs calls step later asked j rise less (unseen all none empty serves) = unseen all none empty serves
-  other_phase time now until xs calls step later asked j rise less (seen since i m has over cond before is_open sum serves) =
-      seen since i m has over cond (omega (arith, before, rise)) is_open sum serves
-  other_phase time now until xs calls step later asked j rise less (served since by cond before soon comes) = served since by cond (omega (arith, before, rise)) soon (less by comes)
+  other_phase time now until xs calls step later asked j rise less (seen since i m has over holds before is_open sum serves) =
+      seen since i m has over holds (omega (arith, before, rise)) is_open sum serves
+  other_phase time now until xs calls step later asked j rise less (served since by holds before soon comes) = served since by holds (omega (arith, before, rise)) soon (less by comes)
 
   -- After a poll
 
@@ -229,7 +229,7 @@ module _ (exact : Exact) (on_time : OnTime) (settings : NackSettings) (c : Setti
           let none_now = nothing none (not_there all) in
           unseen all none_now.0 (ap (λ (b : Bool). cond b (request_at now (schedule_after settings (refresh now ns ∷ calls)) ∷ requests_of settings (c.first + j) (refresh now ns ∷ calls)) (requests_of settings (c.first + j) (refresh now ns ∷ calls))) none_now.2 ∙ none_now.1)
           (serves_skip c.first within j k now later x asked (named_is false none_now.2) serves)
-      by_phase not (seen since i m has over cond before is_open sum serves) =
+      by_phase not (seen since i m has over holds before is_open sum serves) =
           let misses_it = missing m has over not in
           let opened = open_asked exact on_time settings allows.small (c.first + j) slack since calls now ns (omega (arith, fits)) misses_it until is_open by in
           let after = sent_after exact on_time settings allows.small (c.first + j) slack since calls now ns (omega (arith, fits)) misses_it in
@@ -240,48 +240,48 @@ module _ (exact : Exact) (on_time : OnTime) (settings : NackSettings) (c : Setti
               ≡ cond b (request_at now (schedule_after settings (refresh now ns ∷ calls)) ∷ requests_of settings (c.first + j) calls) (requests_of settings (c.first + j) calls)
               → is_in (c.first + j) (requested_at settings (refresh now ns ∷ calls) now) ≡ b → Phase now (until_after now ns calls) xs (polled now ns calls) later asked j
           by_named opened false same e =
-              seen since i m has over cond (omega (arith, before, rise)) opened (omega (arith, sum, ap length same)) (serves_skip c.first within j i now later x asked (named_is false e) serves)
+              seen since i m has over holds (omega (arith, before, rise)) opened (omega (arith, sum, ap length same)) (serves_skip c.first within j i now later x asked (named_is false e) serves)
           by_named opened true same e =
               let made = (subst (AreInTime (request_by settings slack since)) same opened.in_time).0 in
               let up = times_up (length (requests_of settings (c.first + j) calls)) k (retry_most settings + slack) (omega (arith, sum)) in
               let soon = allows.soon in
               elim (serves_taken c.first within j i now later x asked (named_is true e) serves) [
-                | inl comes ↦ served since (now + within) cond (omega (arith, before, rise)) (omega (arith, made, up, soon)) comes
-                | inr rest ↦ seen since rest.0 m has over cond (omega (arith, before, rise)) opened (omega (arith, sum, ap length same, rest.1)) rest.2
+                | inl comes ↦ served since (now + within) holds (omega (arith, before, rise)) (omega (arith, made, up, soon)) comes
+                | inr rest ↦ seen since rest.0 m has over holds (omega (arith, before, rise)) opened (omega (arith, sum, ap length same, rest.1)) rest.2
               ]
-      by_phase not (served since by' cond before soon comes) = served since by' cond (omega (arith, before, rise)) soon comes
+      by_phase not (served since by' holds before soon comes) = served since by' holds (omega (arith, before, rise)) soon comes
 
   -- The receiver
 
   module _ (again : Option RetransmissionStream) (stream : Outgoing) (types : (stream.payload_type < 64) ⊎ (95 < stream.payload_type)) (datagrams : List (List ℕ))
       (are : AreDatagrams stream (packets_of c.units) datagrams) (ids : ExtensionIds) (time_of : ℕ → ℕ) (received : List DatagramStep)
       (known : (n : ℕ) (q : Packet) (meta : RtpMeta) → IsIn (steps.Deliver n meta.received) received → Tells stream.clock_rate q meta → HasValuesOf ids stream (packets_of c.units) n meta → c.known n q meta) where
-    abbrev packets : List Packet
+    abbrev pub packets : List Packet
     packets = packets_of c.units
 
     -- the lowest number, and the highest one
-    abbrev LowIs : List Came → Option ℕ → Type 0
+    abbrev pub LowIs : List Came → Option ℕ → Type 0
     LowIs [] o = o ≡ None
     LowIs (x ∷ xs) o = (o ≡ Some c.first) × (has_come 0 (x ∷ xs) ≡ true)
 
-    abbrev HighIs : List Came → Option ℕ → Type 0
+    abbrev pub HighIs : List Came → Option ℕ → Type 0
     HighIs [] o = o ≡ None
     HighIs (x ∷ xs) o = (g : ℕ) × (o ≡ Some (c.first + g)) × (has_come g (x ∷ xs) ≡ true) × (g < count c) × ((m : ℕ) → has_come m (x ∷ xs) ≡ true → m ≤ g)
 
     -- the receiver, when these came, before the deliveries of these
-    record Goes (p : ℕ) (xs : List Came) (s : Session) (ks : List ℕ) : Type 0 where
-      listening : IsListening again stream s
-      same_ids : s.stream.ids ≡ ids
-      limits : KeepsLimits r s.packets
-      not_ended : s.packets.ended ≡ false
-      numbers : AllNumbered c.first s.packets.numbering ks
-      timed : AllTimed time_of c.first packets ks
-      timely : StayTimely stream.clock_rate c.first packets s.packets.first ks
-      times : AreTimesOf time_of s.packets.noted
-      stands : Stands c r max_wait plain waiting short p xs s.packets.buffer
-      low : LowIs xs s.packets.lowest
-      high : HighIs xs s.packets.numbering.greatest
-      begins : xs ≡ [] → BeginsAt0 ks
+    pub record Goes (p : ℕ) (xs : List Came) (s : Session) (ks : List ℕ) : Type 0 where
+      pub listening : IsListening again stream s
+      pub same_ids : s.stream.ids ≡ ids
+      pub limits : KeepsLimits r s.packets
+      pub not_ended : s.packets.ended ≡ false
+      pub numbers : AllNumbered c.first s.packets.numbering ks
+      pub timed : AllTimed time_of c.first packets ks
+      pub timely : StayTimely stream.clock_rate c.first packets s.packets.first ks
+      pub times : AreTimesOf time_of s.packets.noted
+      pub stands : Stands c r max_wait plain waiting short p xs s.packets.buffer
+      pub low : LowIs xs s.packets.lowest
+      pub high : HighIs xs s.packets.numbering.greatest
+      pub begins : xs ≡ [] → BeginsAt0 ks
 
     -- What is missing
 
@@ -439,7 +439,7 @@ module _ (exact : Exact) (on_time : OnTime) (settings : NackSettings) (c : Setti
 
     -- The walk
 
-    abbrev Phases : ℕ → Option ℕ → List Came → List Call → List AskedStep → List Asked → Type 0
+    abbrev pub Phases : ℕ → Option ℕ → List Came → List Call → List AskedStep → List Asked → Type 0
     Phases time until xs calls later asked = (j : ℕ) → Phase time until xs calls later asked j
 
     pub walk : (later : List AskedStep) (asked : List Asked) (time : ℕ) (until : Option ℕ) (p : ℕ) (xs : List Came) (calls : List Call) (s : Session)
