@@ -5,3 +5,4 @@ pub mod RepeatedRequests
 pub mod MissingLemmas
 pub mod AskedCourses
 pub mod ServedGaps
+pub mod AnsweredCourses

@@ -1,6 +1,6 @@
 -- What a run over datagrams in which each gap is filled pops. What stands in front of `at_pops` repeats ReleaseLemmas of
 -- codec_payload_datagram_runs, whose names for these facts are private.
-use Rattle.std.proofs.Common.{◌≡◌, ◌∙◌, refl, sym, ap, subst, ℕ, ◌+◌, ◌%◌, ◌^◌, ◌<◌, List, [], ◌∷◌, inl, inr, false, Bool, Option, None, length, arith}
+use Rattle.std.proofs.Common.{◌≡◌, ◌∙◌, refl, sym, ap, subst, ℕ, ◌+◌, ◌-◌, ◌%◌, ◌^◌, ◌<◌, List, [], ◌∷◌, inl, inr, false, Bool, Option, None, length, arith}
 use Rattle.std.specs.Prelude.{Contains}
 use Rattle.std.proofs.lemmas.Option.{slice_get_within}
 use Rattle.codec_payload_buffer.proofs.MemberLemmas.{contains_in, in_contains}
@@ -63,6 +63,16 @@ use Rattle.codec_payload_buffer_runs.proofs.order.TakenLemmas.{IsPlain}
 use Rattle.codec_payload_buffer_runs.specs.ReportedIds.{next_id}
 use Rattle.codec_payload_buffer_runs.specs.RunUnits.{AreNext, IsAmong, NonePassedOver}
 use Rattle.codec_payload_timely_runs.specs.TimelyRuns.{From, KeepsTimes, LeavesBy, SomePopBy, evicted, held, pop_times, released, skipped_over}
+use Rattle.codec_payload_feedback_requests.specs.declared.nack.NackSettings.{NackSettings}
+use Rattle.codec_payload_feedback_requests.specs.NackRuns.{Exact, OnTime}
+use Rattle.codec_payload_feedback_requests.specs.NackSchedule.{new_schedule}
+use Rattle.codec_payload_buffer.proofs.MemberLemmas.{IsIn}
+use Rattle.codec_payload_datagram_runs.proofs.EventLemmas.{AllTimed}
+use Rattle.codec_payload_datagram_runs.proofs.TimelyLemmas.{time_in}
+use Rattle.codec_payload_datagram_runs.specs.declared.run.SentSample.{SentSample}
+use Rattle.codec_payload_answered_runs.proofs.AskedCourses.{AskedCourse, HearsTo, Listens, asked_course, hears_to, plain_course, plain_heard}
+use Rattle.codec_payload_answered_runs.proofs.ServedGaps.{unseen, walk}
+use Rattle.codec_payload_answered_runs.specs.AskedRuns.{AllowsTries, Asked, AskedStep, Asking, FillsGaps, RequestsFillGaps, ServesRequests, begins_asking, heard_steps, plain_of}
 use Rattle.codec_payload_answered_runs.proofs.WholeRuns.{comes_by, in_turn, none_evicted}
 use Rattle.codec_payload_answered_runs.proofs.WholeTurns.{IsOf, Stands, StandsAt}
 use Rattle.codec_payload_answered_runs.specs.FilledGaps.{FilledGapsLoseNone, FilledGapsLoseNoneWithHistory, GapsAreFilled, IsPoppedBy, LosesNone, WaitsByTime, first_size}
@@ -77,6 +87,10 @@ none_skipped_by first units place by (time ∷ times) (turn ∷ turns) none (inl
     no_item : (f : CompleteFrame) → Contains [] f → ⊥
     no_item f (k, l, e) = absurd (omega (arith, l))
 none_skipped_by first units place by (time ∷ times) (turn ∷ turns) none (inr later) = none_skipped_by first units place by times turns none.1 later
+
+all_timed : (first : ℕ) (packets : List Packet) (ks : List ℕ) → AllTimed (times_from first packets) first packets ks
+all_timed first packets [] = tt
+all_timed first packets (k ∷ ks) = let place : k ≡ first + k - first = omega arith in (ap (time_in packets) place, all_timed first packets ks)
 
 -- the numbers of datagrams that were sent
 takes_below : (again : Option RetransmissionStream) (later : List DatagramStep) (datagrams : List (List ℕ)) (s t : Session) (answers : List Answer) → Takes again later datagrams s answers t → AllBelow (length datagrams) (delivered later)
@@ -349,7 +363,7 @@ module _ (again : Option RetransmissionStream) (samples : List Sample) (all_step
       (stands_first plain max_wait (settings_of max_wait settings)) refl (log_on l) filled is.2)
   popped plain max_wait settings filled l place by (held whole all) = inr (whole, all)
 
-  pub loses_none : next_id sender.packetizer ≡ None → LosesNone samples all_steps (begins sender receiver) t
+  abbrev loses_none : next_id sender.packetizer ≡ None → LosesNone samples all_steps (begins sender receiver) t
   loses_none plain = record {
     times = keeps_times;
     in_turn = all_in_turn (plain_here plain);
@@ -359,6 +373,37 @@ module _ (again : Option RetransmissionStream) (samples : List Sample) (all_step
         (comes_by here receiver.packets max_wait (plain_here plain) (settings_of max_wait settings) few_sent place by 0 (From 0 None) [] [] received (runs.begun receiver.packets.buffer) l.turns l.end
         (stands_first (plain_here plain) max_wait (settings_of max_wait settings)) (log_on l) filled pops (λ j has. absurd (cc)) comes) delivered);
   }
+
+  -- Requests
+
+  -- the gaps that the requests of the receiver fill
+  fills_gaps : (plain : next_id sender.packetizer ≡ None) (exact : Exact) (on_time : OnTime) (settings : NackSettings) (heard : List AskedStep) (asked : List Asked) → plain_of heard ≡ received
+      → Listens again heard t.datagrams receiver (new_schedule settings) asked → (max_wait slack within_time k : ℕ) → WaitsByTime max_wait (length t.datagrams) receiver.packets
+      → AllowsTries settings max_wait slack within_time k (length t.datagrams) → ServesRequests first slack within_time k (first_size units) heard asked
+      → GapsAreFilled max_wait (first_size units) [] received
+  fills_gaps plain exact on_time settings heard asked same listens max_wait slack within_time k waiting allows serves =
+      let allowed : AllowsTries settings max_wait slack within_time k (count here) = subst (λ (n : ℕ). AllowsTries settings max_wait slack within_time k n) same_sent allows in
+      let ks : delivered (plain_of heard) ≡ delivered received = ap delivered same in
+      subst (GapsAreFilled max_wait (first_size units) []) same
+      (walk exact on_time settings here receiver.packets max_wait slack within_time k (plain_here plain) (settings_of max_wait waiting) few_sent allowed again sender.stream within.one_stream.not_rtcp
+      t.datagrams (subst (λ (ps : List Packet). AreDatagrams sender.stream ps t.datagrams) whole.whole sent.reads) receiver.stream.ids (times_from first sent.all) received
+      (λ n q meta is tells values. (contains_in (steps.Deliver n meta.received) received is, tells, values))
+      heard asked 0 None 0 [] [] receiver listens serves.times serves.asks serves.first_unit (λ step is. subst (λ (xs : List DatagramStep). IsIn step xs) same is)
+      (record {
+        listening = listening;
+        same_ids = refl;
+        limits = record { wait_limits = refl; room = refl };
+        not_ended = not_ended;
+        numbers = subst (AllNumbered first receiver.packets.numbering) (sym ks) numbers;
+        timed = subst (λ (ps : List Packet). AllTimed (times_from first sent.all) first ps (delivered (plain_of heard))) whole.whole (all_timed first sent.all (delivered (plain_of heard)));
+        timely = subst (λ (ps : List Packet). StayTimely rate first ps receiver.packets.first (delivered (plain_of heard))) whole.whole (subst (StayTimely rate first sent.all receiver.packets.first) (sym ks) timely);
+        times = nothing_noted;
+        stands = stands_first (plain_here plain) max_wait (settings_of max_wait waiting);
+        low = ap (λ (x : Session). x.packets.lowest) begun.is;
+        high = ap (λ (x : Session). x.packets.numbering.greatest) begun.is;
+        begins = λ e. serves.begins;
+      })
+      (λ j. unseen (λ m has. absurd (cc)) refl refl (serves.serves j)))
 
 -- What a run sends
 
@@ -400,3 +445,33 @@ pub filled_gaps_with_history : FilledGapsLoseNoneWithHistory
 filled_gaps_with_history samples all_steps sender history receiver t run plain answers within =
     loses_none_of_run history.stream samples (plain_steps_of samples all_steps (begins_with sender history receiver) t) sender receiver t.wire
     (course samples all_steps sender history receiver t run answers.settings answers.new) answers.heard within plain
+
+-- Runs whose receiver requests what is missing
+
+module _ (exact : Exact) (on_time : OnTime) (again : Option RetransmissionStream) (samples : List Sample) (all_steps : List AskedStep) (sender : Sending) (receiver : Session) (settings : NackSettings) (t : Asking)
+    (run : AskedCourse again samples all_steps (begins_asking sender receiver settings) t) (hears : AreHeard again receiver.stream.retransmission)
+    (within : IsWithinWindows samples (plain_of all_steps) sender receiver t.wire.sends) (plain : next_id sender.packetizer ≡ None) where
+  on_wire : Proceeds again samples (plain_of all_steps) (begins sender receiver) t.wire
+  on_wire = plain_course again samples all_steps (begins_asking sender receiver settings) t run
+
+  hearing : HearsTo again samples all_steps (begins_asking sender receiver settings) t
+  hearing = hears_to again samples all_steps (begins_asking sender receiver settings) t run
+
+  listens : Listens again (heard_steps samples 0 all_steps t.wire.sends) t.wire.datagrams receiver (new_schedule settings) t.asked
+  listens =
+      subst (λ (xs : List Asked). Listens again (heard_steps samples 0 all_steps t.wire.sends) t.wire.datagrams receiver (new_schedule settings) xs) (sym hearing.asked)
+      (subst (λ (es : List SentSample). Listens again (heard_steps samples 0 all_steps es) t.wire.datagrams receiver (new_schedule settings) hearing.more) (sym hearing.sends) hearing.listens)
+
+  pub fills : FillsGaps samples all_steps settings (begins_asking sender receiver settings) t
+  fills = record {
+    run = loses_none again samples (plain_of all_steps) sender receiver t.wire (takes_of again samples (plain_of all_steps) sender receiver t.wire on_wire)
+        (sends_from again samples (plain_of all_steps) sender receiver t.wire on_wire hears within) hears within plain;
+    filled = λ max_wait slack within_time k waiting allows serves.
+        fills_gaps again samples (plain_of all_steps) sender receiver t.wire (takes_of again samples (plain_of all_steps) sender receiver t.wire on_wire)
+        (sends_from again samples (plain_of all_steps) sender receiver t.wire on_wire hears within) hears within plain exact on_time settings (heard_steps samples 0 all_steps t.wire.sends) t.asked
+        (plain_heard samples 0 all_steps t.wire.sends) listens max_wait slack within_time k waiting allows serves;
+  }
+
+pub requests_fill_gaps : Exact → OnTime → RequestsFillGaps
+requests_fill_gaps exact on_time samples all_steps sender receiver settings t run plain within =
+    fills exact on_time None samples all_steps sender receiver settings t (asked_course None samples all_steps (begins_asking sender receiver settings) t run) tt within plain

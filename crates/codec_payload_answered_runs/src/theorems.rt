@@ -1,5 +1,7 @@
 //! Theorems on runs whose lost packets come back. These functions exist for their proofs and do nothing.
 
+ghost use Rattle.codec_payload_answered_runs.specs.AnsweredRuns.{AnswersFillGaps};
+ghost use Rattle.codec_payload_answered_runs.specs.AskedRuns.{RequestsFillGaps};
 ghost use Rattle.codec_payload_answered_runs.specs.FilledGaps.{FilledGapsLoseNone, FilledGapsLoseNoneWithHistory};
 ghost use Rattle.codec_payload_answered_runs.specs.Repeats.{RequestsAreRepeated};
 
@@ -19,3 +21,12 @@ pub fn filled_gaps_lose_none()
     ensures plain { FilledGapsLoseNone }
     ensures with_history { FilledGapsLoseNoneWithHistory }
 {}
+
+/// If, of the first requests for each datagram, not too many are in vain, the requests of a receiver fill each gap before a frame behind
+/// it is due. So it is if the sender answers by its history, too: then a request is in vain if the request is lost, or its answer.
+pub fn requests_fill_gaps()
+    ensures plain { RequestsFillGaps }
+    ensures with_history { AnswersFillGaps }
+{
+    nack_schedules_keep_their_settings();
+}

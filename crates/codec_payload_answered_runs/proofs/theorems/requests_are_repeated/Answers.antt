@@ -1,7 +1,4 @@
 use Rattle.codec_payload_answered_runs.proofs.RepeatedRequests.{requests_are_repeated}
-use Rattle.codec_payload_answered_runs.proofs.MissingLemmas.{misses}
-use Rattle.codec_payload_answered_runs.proofs.AskedCourses.{hears_to}
-use Rattle.codec_payload_answered_runs.proofs.ServedGaps.{serves_taken}
 use Rattle.codec_payload_answered_runs.proofs.theorems.requests_are_repeated.Goals as goal
 
 pub returns : goal.returns
