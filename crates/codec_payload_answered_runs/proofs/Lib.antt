@@ -6,3 +6,4 @@ pub mod MissingLemmas
 pub mod AskedCourses
 pub mod ServedGaps
 pub mod AnsweredCourses
+pub mod AnswerHops

@@ -462,14 +462,24 @@ module _ (exact : Exact) (on_time : OnTime) (again : Option RetransmissionStream
       subst (λ (xs : List Asked). Listens again (heard_steps samples 0 all_steps t.wire.sends) t.wire.datagrams receiver (new_schedule settings) xs) (sym hearing.asked)
       (subst (λ (es : List SentSample). Listens again (heard_steps samples 0 all_steps es) t.wire.datagrams receiver (new_schedule settings) hearing.more) (sym hearing.sends) hearing.listens)
 
+  abbrev run_part : LosesNone samples (plain_of all_steps) (begins sender receiver) t.wire
+  run_part = loses_none again samples (plain_of all_steps) sender receiver t.wire (takes_of again samples (plain_of all_steps) sender receiver t.wire on_wire)
+      (sends_from again samples (plain_of all_steps) sender receiver t.wire on_wire hears within) hears within plain
+
+  gaps : (max_wait slack within_time k : ℕ) → WaitsByTime max_wait (length t.wire.datagrams) receiver.packets → AllowsTries settings max_wait slack within_time k (length t.wire.datagrams)
+      → ServesRequests run_part.times.promises.first slack within_time k (first_size run_part.times.promises.released.units) (heard_steps samples 0 all_steps t.wire.sends) t.asked
+      → GapsAreFilled max_wait (first_size run_part.times.promises.released.units) [] (received_steps samples 0 (plain_of all_steps) t.wire.sends)
+  gaps max_wait slack within_time k waiting allows serves =
+      fills_gaps again samples (plain_of all_steps) sender receiver t.wire (takes_of again samples (plain_of all_steps) sender receiver t.wire on_wire)
+      (sends_from again samples (plain_of all_steps) sender receiver t.wire on_wire hears within) hears within plain exact on_time settings (heard_steps samples 0 all_steps t.wire.sends) t.asked
+      (plain_heard samples 0 all_steps t.wire.sends) listens max_wait slack within_time k waiting allows serves
+
   pub fills : FillsGaps samples all_steps settings (begins_asking sender receiver settings) t
   fills = record {
-    run = loses_none again samples (plain_of all_steps) sender receiver t.wire (takes_of again samples (plain_of all_steps) sender receiver t.wire on_wire)
-        (sends_from again samples (plain_of all_steps) sender receiver t.wire on_wire hears within) hears within plain;
-    filled = λ max_wait slack within_time k waiting allows serves.
-        fills_gaps again samples (plain_of all_steps) sender receiver t.wire (takes_of again samples (plain_of all_steps) sender receiver t.wire on_wire)
-        (sends_from again samples (plain_of all_steps) sender receiver t.wire on_wire hears within) hears within plain exact on_time settings (heard_steps samples 0 all_steps t.wire.sends) t.asked
-        (plain_heard samples 0 all_steps t.wire.sends) listens max_wait slack within_time k waiting allows serves;
+    run = run_part;
+    filled = gaps;
+    in_turn = λ max_wait slack within_time k waiting allows serves. run_part.in_turn max_wait waiting (gaps max_wait slack within_time k waiting allows serves);
+    in_time = λ max_wait slack within_time k waiting allows serves. run_part.in_time max_wait waiting (gaps max_wait slack within_time k waiting allows serves);
   }
 
 pub requests_fill_gaps : Exact → OnTime → RequestsFillGaps

@@ -1,22 +1,29 @@
 -- A run whose parts are all of this library: a sender with the history of its datagrams, a receiver, and the schedule of its requests.
-use Rattle.std.specs.Prelude.{◌≡◌, ℕ, List, [], ◌∷◌, ◌++◌, Option, Some, None, slice_get}
+use Rattle.std.specs.Prelude.{◌≡◌, ℕ, zero, suc, ◌+◌, ◌<◌, ◌≤◌, ◌⊎◌, List, [], ◌∷◌, ◌++◌, Option, Some, None, length, slice_get}
 use Rattle.codec_payload_base.specs.declared.wire.Ticks.{Ticks}
 use Rattle.codec_payload_feedback_requests.specs.declared.nack.NackSettings.{NackSettings}
+use Rattle.codec_payload_feedback_requests.specs.NackRuns.{is_in}
 use Rattle.codec_payload_feedback_requests.specs.NackSchedule.{Schedule, after_answer, after_due, new_schedule}
 use Rattle.codec_payload_payloader.specs.Sending.{Sample}
 use Rattle.codec_payload_sending.specs.Senders.{Sending}
 use Rattle.codec_payload_sending_history.specs.Packets.{Past}
 use Rattle.codec_payload_sending_history.specs.declared.retransmission.Resent.{Resent}
+use Rattle.codec_payload_sending_history.specs.declared.retransmission.Resent.TheVariants as results
 use Rattle.codec_payload_receiver.specs.Sessions.{Session}
 use Rattle.codec_payload_buffer_runs.specs.ReportedIds.{next_id}
 use Rattle.codec_payload_datagram_runs.specs.HistoryReleases.{AnswersReceiver, latest_with, repeated_by, sends_by, sent_by}
 use Rattle.codec_payload_datagram_runs.specs.HistoryRuns.{DoesHistoryStep, Resending, begins_with}
-use Rattle.codec_payload_datagram_runs.specs.Releases.{IsWithinWindows}
+use Rattle.codec_payload_buffer_runs.specs.RunUnits.{AreNext}
+use Rattle.codec_payload_codec.specs.Packetizers.{may_split}
+use Rattle.codec_payload_datagram_runs.specs.Releases.{IsKnownOf, IsWithinWindows, delivered, received_steps}
+use Rattle.codec_payload_datagram_runs.specs.WireLogs.{OfEachLog}
+use Rattle.codec_payload_timely_runs.specs.TimelyRuns.{PopsInTimeFrom0}
 use Rattle.codec_payload_datagram_runs.specs.declared.history_run.HistoryStep.{HistoryStep}
 use Rattle.codec_payload_datagram_runs.specs.declared.history_run.HistoryStep.TheVariants as history_steps
 use Rattle.codec_payload_datagram_runs.specs.declared.run.DatagramStep.TheVariants as steps
 use Rattle.codec_payload_datagram_runs.specs.declared.run.SentSample.{SentSample}
-use Rattle.codec_payload_answered_runs.specs.AskedRuns.{Asked, AskedStep, Asking, Asks, Does, FillsGaps, Hears, asked_by, plain_of, wanted_by}
+use Rattle.codec_payload_answered_runs.specs.FilledGaps.{AllArePopped, WaitsByTime, first_size}
+use Rattle.codec_payload_answered_runs.specs.AskedRuns.{AllowsTries, Asked, AskedStep, Asking, Asks, AsksInTime, BeginsAt0, Does, FillsGaps, FirstComesFirst, Hears, IfAsked, OneServes, TimesRise, asked_by, heard_steps, plain_of, wanted_by}
 
 -- The run
 
@@ -76,6 +83,62 @@ asked_steps_of samples all_steps s t = asked_steps s.link.wire.sending.stream.nu
 abbrev pub asking_of : Answering → Asking
 asking_of s = record { wire = s.link.wire; schedule = s.schedule; asked = s.asked }
 
+-- Premises: each request and each answer that is not lost arrives within a delay
+
+-- how many retransmissions an answer wrote
+abbrev pub written_by : Resent → ℕ
+written_by results.Written = 1
+written_by results.NotKept = 0
+written_by results.TooSoon = 0
+written_by results.TooLarge = 0
+
+-- the retransmission with this index arrives by then
+abbrev pub Arrives : (m by : ℕ) → List AnsweredStep → Type 0
+Arrives m by [] = ⊥
+Arrives m by (Links (history_steps.Plain step) ∷ later) = Arrives m by later
+Arrives m by (Links (history_steps.Resend number now) ∷ later) = Arrives m by later
+Arrives m by (Links (history_steps.DeliverAgain j now) ∷ later) = ((j ≡ m) × (now.0 ≤ by)) ⊎ Arrives m by later
+Arrives m by (Polls now ∷ later) = Arrives m by later
+Arrives m by (Notes now number ∷ later) = Arrives m by later
+
+-- A request for the datagram with the index j, made at `asked_at`, is answered: it arrives within the delay, when `sent` datagrams were
+-- sent; the history answers it; and its answer, the retransmission with the index m, arrives within the delay
+abbrev pub IsAnswered : (number : ℕ) → List Sample → (j asked_at delay sent m : ℕ) → List AnsweredStep → List SentSample → List Resent → Type 0
+IsAnswered number samples j asked_at delay sent m [] sends answers = ⊥
+IsAnswered number samples j asked_at delay sent m (Links (history_steps.Plain step) ∷ later) sends answers =
+    IsAnswered number samples j asked_at delay (sent_by samples sent step sends) m later (sends_by samples step sends) answers
+IsAnswered number samples j asked_at delay sent m (Links (history_steps.Resend requested now) ∷ later) sends [] = ⊥
+IsAnswered number samples j asked_at delay sent m (Links (history_steps.Resend requested now) ∷ later) sends (answer ∷ answers) =
+    ((j < sent) × (latest_with number sent requested ≡ j) × (now.0 ≤ asked_at + delay) × (answer ≡ results.Written) × Arrives m (now.0 + delay) later)
+    ⊎ IsAnswered number samples j asked_at delay sent (m + written_by answer) later sends answers
+IsAnswered number samples j asked_at delay sent m (Links (history_steps.DeliverAgain i now) ∷ later) sends answers = IsAnswered number samples j asked_at delay sent m later sends answers
+IsAnswered number samples j asked_at delay sent m (Polls now ∷ later) sends answers = IsAnswered number samples j asked_at delay sent m later sends answers
+IsAnswered number samples j asked_at delay sent m (Notes now heard ∷ later) sends answers = IsAnswered number samples j asked_at delay sent m later sends answers
+
+-- of the first k + 1 requests for the datagram with the index j, at most k are in vain. The receiver counts it as `first + j`
+abbrev pub OneIsAnswered : (number first : ℕ) → List Sample → (j delay k sent m : ℕ) → List AnsweredStep → List SentSample → List Resent → List Asked → Type 0
+OneIsAnswered number first samples j delay k sent m [] sends answers asked = Unit {0}
+OneIsAnswered number first samples j delay k sent m (Links (history_steps.Plain step) ∷ later) sends answers asked =
+    OneIsAnswered number first samples j delay k (sent_by samples sent step sends) m later (sends_by samples step sends) answers asked
+OneIsAnswered number first samples j delay k sent m (Links (history_steps.Resend requested now) ∷ later) sends [] asked = ⊥
+OneIsAnswered number first samples j delay k sent m (Links (history_steps.Resend requested now) ∷ later) sends (answer ∷ answers) asked =
+    OneIsAnswered number first samples j delay k sent (m + written_by answer) later sends answers asked
+OneIsAnswered number first samples j delay k sent m (Links (history_steps.DeliverAgain i now) ∷ later) sends answers asked = OneIsAnswered number first samples j delay k sent m later sends answers asked
+OneIsAnswered number first samples j delay k sent m (Notes now heard ∷ later) sends answers asked = OneIsAnswered number first samples j delay k sent m later sends answers asked
+OneIsAnswered number first samples j delay k sent m (Polls now ∷ later) sends answers [] = ⊥
+OneIsAnswered number first samples j delay zero sent m (Polls now ∷ later) sends answers (x ∷ asked) =
+    IfAsked (is_in (first + j) x.numbers) (IsAnswered number samples j now delay sent m later sends answers) (OneIsAnswered number first samples j delay zero sent m later sends answers asked)
+OneIsAnswered number first samples j delay (suc k) sent m (Polls now ∷ later) sends answers (x ∷ asked) =
+    IfAsked (is_in (first + j) x.numbers) (IsAnswered number samples j now delay sent m later sends answers ⊎ OneIsAnswered number first samples j delay k sent m later sends answers asked)
+    (OneIsAnswered number first samples j delay (suc k) sent m later sends answers asked)
+
+-- so the datagram comes within twice the delay of one of these requests
+abbrev pub AnswersServe : Type 0
+AnswersServe =
+    (number first : ℕ) (samples : List Sample) (j delay k : ℕ) (all_steps : List AnsweredStep) (sends : List SentSample) (answers : List Resent) (asked : List Asked)
+    → OneIsAnswered number first samples j delay k 0 0 all_steps sends answers asked
+    → OneServes first (delay + delay) j k (heard_steps samples 0 (asked_steps number samples 0 [] all_steps sends answers) sends) asked
+
 -- Guarantees
 
 -- for every run whose receiver requests what is missing, and whose sender answers by its history
@@ -85,3 +148,42 @@ AnswersFillGaps =
     → AnsweredRuns samples all_steps (begins_answering sender history receiver settings) t → next_id sender.packetizer ≡ None → AnswersReceiver history receiver
     → IsWithinWindows samples (plain_of (asked_steps_of samples all_steps (begins_answering sender history receiver settings) t)) sender receiver t.link.wire.sends
     → FillsGaps samples (asked_steps_of samples all_steps (begins_answering sender history receiver settings) t) settings (asking_of (begins_answering sender history receiver settings)) (asking_of t)
+
+-- the steps of the receiver of a run
+abbrev pub heard_of : List Sample → List AnsweredStep → Answering → Answering → List AskedStep
+heard_of samples all_steps s t = heard_steps samples 0 (asked_steps_of samples all_steps s t) t.link.wire.sends
+
+-- the network: times do not fall; the schedule is polled in time; the first datagram comes first, and the first unit before others; and
+-- of the first k + 1 requests for each datagram, at most k, or their answers, are lost
+pub record AnswersRequests (first slack delay k size : ℕ) (samples : List Sample) (all_steps : List AnsweredStep) (s t : Answering) : Type 0 where
+  pub times : TimesRise 0 (heard_of samples all_steps s t)
+  pub asks : AsksInTime slack None (heard_of samples all_steps s t) t.asked
+  pub begins : BeginsAt0 (delivered (plain_of (heard_of samples all_steps s t)))
+  pub first_unit : FirstComesFirst size [] (heard_of samples all_steps s t)
+  pub answers : (j : ℕ) → OneIsAnswered s.link.wire.sending.stream.number first samples j delay k 0 0 all_steps t.link.wire.sends t.link.answers t.asked
+
+-- Lost, requested, answered, whole: the pops return the units in turn, from the first one that was sent on, each whole and none left
+-- out; and each in time, if pops come until None after each delivery and at each deadline
+pub record ComeBack (samples : List Sample) (all_steps : List AnsweredStep) (settings : NackSettings) (s t : Answering) : Type 0 where
+  pub gaps : FillsGaps samples (asked_steps_of samples all_steps s t) settings (asking_of s) (asking_of t)
+  pub in_turn : (max_wait slack delay k : ℕ) → WaitsByTime max_wait (length t.link.wire.datagrams) s.link.wire.session.packets
+      → AllowsTries settings max_wait slack (delay + delay) k (length t.link.wire.datagrams)
+      → AnswersRequests gaps.run.times.promises.first slack delay k (first_size gaps.run.times.promises.released.units) samples all_steps s t
+      → AreNext (IsKnownOf samples (plain_of (asked_steps_of samples all_steps s t)) s.link.wire t.link.wire gaps.run.times.promises.released.units) (may_split s.link.wire.sending.packetizer)
+      gaps.run.times.promises.released.units 0 t.link.wire.pops
+  pub in_time : (max_wait slack delay k : ℕ) → WaitsByTime max_wait (length t.link.wire.datagrams) s.link.wire.session.packets
+      → AllowsTries settings max_wait slack (delay + delay) k (length t.link.wire.datagrams)
+      → AnswersRequests gaps.run.times.promises.first slack delay k (first_size gaps.run.times.promises.released.units) samples all_steps s t
+      → OfEachLog samples (plain_of (asked_steps_of samples all_steps s t)) s.link.wire t.link.wire gaps.run.times.promises.released.units
+      (λ turns end. PopsInTimeFrom0 max_wait (received_steps samples 0 (plain_of (asked_steps_of samples all_steps s t)) t.link.wire.sends) turns
+      → AllArePopped (IsKnownOf samples (plain_of (asked_steps_of samples all_steps s t)) s.link.wire t.link.wire gaps.run.times.promises.released.units) max_wait gaps.run.times.promises.first
+      (may_split s.link.wire.sending.packetizer) gaps.run.times.promises.released.units
+      (received_steps samples 0 (plain_of (asked_steps_of samples all_steps s t)) t.link.wire.sends) turns end)
+
+-- for every run whose receiver requests what is missing, and whose sender answers by its history
+abbrev pub LostPacketsComeBack : Type 0
+LostPacketsComeBack =
+    (samples : List Sample) (all_steps : List AnsweredStep) (sender : Sending) (history : Past) (receiver : Session) (settings : NackSettings) (t : Answering)
+    → AnsweredRuns samples all_steps (begins_answering sender history receiver settings) t → next_id sender.packetizer ≡ None → AnswersReceiver history receiver
+    → IsWithinWindows samples (plain_of (asked_steps_of samples all_steps (begins_answering sender history receiver settings) t)) sender receiver t.link.wire.sends
+    → ComeBack samples all_steps settings (begins_answering sender history receiver settings) t

@@ -5,17 +5,21 @@ use Rattle.codec_payload_base.specs.declared.wire.Ticks.{Ticks}
 use Rattle.codec_payload_feedback_requests.specs.declared.nack.NackSettings.{NackSettings}
 use Rattle.codec_payload_feedback_requests.specs.NackRuns.{is_in}
 use Rattle.codec_payload_feedback_requests.specs.NackSchedule.{Schedule, after_answer, after_due, due_numbers, earliest_of, new_schedule, refreshed}
+use Rattle.codec_payload_codec.specs.Packetizers.{may_split}
 use Rattle.codec_payload_jitter.specs.Missing.{missing_numbers}
 use Rattle.codec_payload_payloader.specs.Sending.{Sample}
 use Rattle.codec_payload_sending.specs.Senders.{Sending}
 use Rattle.codec_payload_receiver.specs.Sessions.{Session}
 use Rattle.codec_payload_buffer_runs.specs.ReportedIds.{next_id}
-use Rattle.codec_payload_datagram_runs.specs.Releases.{IsWithinWindows, delivered, received_steps, sends_after, sent_after}
+use Rattle.codec_payload_buffer_runs.specs.RunUnits.{AreNext}
+use Rattle.codec_payload_datagram_runs.specs.WireLogs.{OfEachLog}
+use Rattle.codec_payload_timely_runs.specs.TimelyRuns.{PopsInTimeFrom0}
+use Rattle.codec_payload_datagram_runs.specs.Releases.{IsKnownOf, IsWithinWindows, delivered, received_steps, sends_after, sent_after}
 use Rattle.codec_payload_datagram_runs.specs.WireRuns.{DoesStep, Wire, begins}
 use Rattle.codec_payload_datagram_runs.specs.declared.run.DatagramStep.{DatagramStep}
 use Rattle.codec_payload_datagram_runs.specs.declared.run.DatagramStep.TheVariants as steps
 use Rattle.codec_payload_datagram_runs.specs.declared.run.SentSample.{SentSample}
-use Rattle.codec_payload_answered_runs.specs.FilledGaps.{Came, LosesNone, StartsWhole, WaitsByTime, GapsAreFilled, first_size}
+use Rattle.codec_payload_answered_runs.specs.FilledGaps.{AllArePopped, Came, LosesNone, StartsWhole, WaitsByTime, GapsAreFilled, first_size}
 use Rattle.codec_payload_answered_runs.specs.Repeats.{IsBy, due_by, retry_most}
 
 -- The run
@@ -173,12 +177,22 @@ pub record ServesRequests (first slack within k size : ℕ) (heard : List AskedS
 
 -- Guarantees
 
--- each gap is filled before a frame behind it is due
+-- Each gap is filled before a frame behind it is due. So the pops return the units in turn, from the first one that was sent on, each
+-- whole and none left out; and each in time, if pops come until None after each delivery and at each deadline
 pub record FillsGaps (samples : List Sample) (all_steps : List AskedStep) (settings : NackSettings) (s t : Asking) : Type 0 where
   pub run : LosesNone samples (plain_of all_steps) s.wire t.wire
   pub filled : (max_wait slack within k : ℕ) → WaitsByTime max_wait (length t.wire.datagrams) s.wire.session.packets → AllowsTries settings max_wait slack within k (length t.wire.datagrams)
       → ServesRequests run.times.promises.first slack within k (first_size run.times.promises.released.units) (heard_steps samples 0 all_steps t.wire.sends) t.asked
       → GapsAreFilled max_wait (first_size run.times.promises.released.units) [] (received_steps samples 0 (plain_of all_steps) t.wire.sends)
+  pub in_turn : (max_wait slack within k : ℕ) → WaitsByTime max_wait (length t.wire.datagrams) s.wire.session.packets → AllowsTries settings max_wait slack within k (length t.wire.datagrams)
+      → ServesRequests run.times.promises.first slack within k (first_size run.times.promises.released.units) (heard_steps samples 0 all_steps t.wire.sends) t.asked
+      → AreNext (IsKnownOf samples (plain_of all_steps) s.wire t.wire run.times.promises.released.units) (may_split s.wire.sending.packetizer) run.times.promises.released.units 0 t.wire.pops
+  pub in_time : (max_wait slack within k : ℕ) → WaitsByTime max_wait (length t.wire.datagrams) s.wire.session.packets → AllowsTries settings max_wait slack within k (length t.wire.datagrams)
+      → ServesRequests run.times.promises.first slack within k (first_size run.times.promises.released.units) (heard_steps samples 0 all_steps t.wire.sends) t.asked
+      → OfEachLog samples (plain_of all_steps) s.wire t.wire run.times.promises.released.units
+      (λ turns end. PopsInTimeFrom0 max_wait (received_steps samples 0 (plain_of all_steps) t.wire.sends) turns
+      → AllArePopped (IsKnownOf samples (plain_of all_steps) s.wire t.wire run.times.promises.released.units) max_wait run.times.promises.first (may_split s.wire.sending.packetizer)
+      run.times.promises.released.units (received_steps samples 0 (plain_of all_steps) t.wire.sends) turns end)
 
 -- for every run whose receiver requests what is missing
 abbrev pub RequestsFillGaps : Type 0

@@ -1,6 +1,6 @@
 //! Theorems on runs whose lost packets come back. These functions exist for their proofs and do nothing.
 
-ghost use Rattle.codec_payload_answered_runs.specs.AnsweredRuns.{AnswersFillGaps};
+ghost use Rattle.codec_payload_answered_runs.specs.AnsweredRuns.{AnswersFillGaps, AnswersServe, LostPacketsComeBack};
 ghost use Rattle.codec_payload_answered_runs.specs.AskedRuns.{RequestsFillGaps};
 ghost use Rattle.codec_payload_answered_runs.specs.FilledGaps.{FilledGapsLoseNone, FilledGapsLoseNoneWithHistory};
 ghost use Rattle.codec_payload_answered_runs.specs.Repeats.{RequestsAreRepeated};
@@ -27,6 +27,17 @@ pub fn filled_gaps_lose_none()
 pub fn requests_fill_gaps()
     ensures plain { RequestsFillGaps }
     ensures with_history { AnswersFillGaps }
+{
+    nack_schedules_keep_their_settings();
+}
+
+/// Lost, requested, answered, whole: of a sender that answers by its history, and a receiver that requests what is missing. If each
+/// request and each answer that is not lost arrives within a delay, if of the first k + 1 requests for each datagram at most k are lost,
+/// or their answers, and if the settings allow so many tries in time, then the pops return each unit, whole and in turn, and in time.
+pub fn lost_packets_come_back()
+    ensures whole { LostPacketsComeBack }
+    // A request that arrives and is answered, and whose answer arrives: the datagram comes within twice the delay.
+    ensures hops { AnswersServe }
 {
     nack_schedules_keep_their_settings();
 }
