@@ -1,0 +1,4 @@
+pub mod FilledGaps
+pub mod Repeats
+pub mod AskedRuns
+pub mod AnsweredRuns
