@@ -1,7 +1,10 @@
 pub mod BeginLemmas
 pub mod CallEvents
 pub mod CopyLemmas
+pub mod EdgeSteps
 pub mod ExampleLemmas
+pub mod NearLemmas
+pub mod PlaceLemmas
 pub mod RedCalls
 pub mod RedExampleLemmas
 pub mod RedLogs
