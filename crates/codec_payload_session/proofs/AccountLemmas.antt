@@ -116,13 +116,10 @@ takes_taken : (now : Ticks) (probation : ℕ) (bytes : List ℕ) (s : StreamStat
     → t.taken ≡ taken_unless (is_no_memory told) s.taken
 takes_taken now probation bytes s told t got = ap (λ (x : StreamState). x.taken) got.3 ∙ by_test (is_no_memory told)
   where
-    abbrev edged : StreamState
-    edged = with_edges got.0 got.1 s
+    same : (late_followed (is_ok told) now.0 bytes (received now.0 bytes (is_accepted told) got.0 (with_edges got.0 got.1 s))).taken ≡ s.taken
+    same = late_taken (is_ok told) now.0 bytes (received now.0 bytes (is_accepted told) got.0 (with_edges got.0 got.1 s)) ∙ received_taken now.0 bytes (is_accepted told) got.0 (with_edges got.0 got.1 s)
 
-    same : (late_followed (is_ok told) now.0 bytes (received now.0 bytes (is_accepted told) got.0 edged)).taken ≡ s.taken
-    same = late_taken (is_ok told) now.0 bytes (received now.0 bytes (is_accepted told) got.0 edged) ∙ received_taken now.0 bytes (is_accepted told) got.0 edged
-
-    by_test : (b : Bool) → (heard_unless b now.0 probation (is_accepted told) (payload_size (rtp_at bytes)) (late_followed (is_ok told) now.0 bytes (received now.0 bytes (is_accepted told) got.0 edged))).taken ≡ taken_unless b s.taken
+    by_test : (b : Bool) → (heard_unless b now.0 probation (is_accepted told) (payload_size (rtp_at bytes)) (late_followed (is_ok told) now.0 bytes (received now.0 bytes (is_accepted told) got.0 (with_edges got.0 got.1 s)))).taken ≡ taken_unless b s.taken
     by_test true = same
     by_test false = ap next same
 

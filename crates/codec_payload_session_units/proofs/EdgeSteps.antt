@@ -4,13 +4,12 @@ use Rattle.std.specs.Prelude.{IfSome}
 use Rattle.std.specs.Option.{option_map}
 use Rattle.std.specs.declared.alloc.AllocError.{AllocError}
 use Rattle.codec_payload_edges.specs.Pictures.{Pictures, checked, heard}
-use Rattle.codec_payload_edges.specs.Senders.{AreOf, HasMediaAlone, IsOf, Sender, SendsInOrder, Stored, after_calls, stored_in}
+use Rattle.codec_payload_edges.specs.Senders.{AreOf, FindsNothing, HasMediaAlone, IsOf, Sender, SendsInOrder, Stored, after_calls, stored_in}
 use Rattle.codec_payload_edges.specs.Senders.Call.{Checks, Hears}
 use Rattle.codec_payload_edges.specs.Senders.{Call as EdgeCall}
 use Rattle.codec_payload_edges.specs.declared.edge.Edge.{Edge}
 use Rattle.codec_payload_edges.specs.declared.pictures.Between.{Between}
 use Rattle.codec_payload_edges.specs.declared.pictures.Gaps.{Gaps}
-use Rattle.codec_payload_edges.proofs.SenderLemmas.{finds_nothing}
 use Rattle.codec_payload_jitter.specs.Receiving.{Receiving}
 use Rattle.codec_payload_jitter.specs.declared.outcome.Outcome.{Outcome}
 use Rattle.codec_payload_receiver.specs.Sessions.{Session as Receiver}
@@ -38,7 +37,7 @@ silent_still k bytes received f r g t silent got =
     let is = subst (λ (b : Bool). FollowsIf b k bytes (is_stored received) f r got.told g t) (with_nothing (can_say k) (has_come received) silent) got.follows in
     (is.2, is.1)
 
-module _ (s : Sender) (order : SendsInOrder s) (alone : HasMediaAlone s) where
+module _ (nothing : FindsNothing) (s : Sender) (order : SendsInOrder s) (alone : HasMediaAlone s) where
   -- the edges heard of packets of the sender alone
   pub record Traced (g : Followed) : Type 0 where
     pub calls : List EdgeCall
@@ -77,7 +76,7 @@ module _ (s : Sender) (order : SendsInOrder s) (alone : HasMediaAlone s) where
 
   heard_still : (x : Stored) (base : Followed) → Traced base → IsOf s x → (r : Receiving) (answer : Result Unit AllocError) (g : Followed) (t : Receiving) → HearsEdge x.number x.edge base r answer g t → (t ≡ r) × Traced g
   heard_still x base traced is r answer g t h =
-      let none = finds_nothing s traced.calls x order alone (is, traced.are) in
+      let none = nothing s traced.calls x order alone (is, traced.are) in
       let before : ((heard x.number x.edge base.pictures).1).before ≡ None = ap (λ (p : Pictures). ((heard x.number x.edge p).1).before) traced.is ∙ none.0 in
       let after : ((heard x.number x.edge base.pictures).1).after ≡ None = ap (λ (p : Pictures). ((heard x.number x.edge p).1).after) traced.is ∙ none.1 in
       let first = subst (λ (o : Option Between). NotesGap o (record base { pictures = (heard x.number x.edge base.pictures).0 }) r h.first h.mid h.packets) before h.before in
