@@ -26,16 +26,31 @@ pub receiver_stays : (r t : Receiver) → t ≡ record r { packets = record r.pa
 receiver_stays r t beside same =
     beside ∙ ap (λ (p : Receiving). record r { packets = record r.packets { no_media_numbers = p.no_media_numbers } }) same
 
-with_nothing : (a b : Bool) → a ≡ false → (a && b) ≡ false
-with_nothing true b is = absurd (cc)
-with_nothing false b is = refl
+-- packets that say nothing of their pictures
+plain_edge : (m : SenderMark) (n : ℕ) (stored : Bool) (f : Option Followed) (r : Receiver) (answer : Result Unit AllocError) (g : Option Followed) (t : Receiving)
+    → FollowsEdge m n (edge_if stored None) f r.packets answer g t → t ≡ r.packets
+plain_edge m n true f r answer g t h = h.2
+plain_edge m n false f r answer g t h = h.2
 
--- packets that can say nothing
-pub silent_still : (k : EdgeRules) (bytes : List ℕ) (received : Result Outcome ReceiveError) (f : Option Followed) (r : Receiver) (g : Option Followed) (t : Receiver) → can_say k ≡ false
-    → FollowsEdges k bytes received f r g t → (t ≡ r) × (g ≡ f)
-silent_still k bytes received f r g t silent got =
-    let is = subst (λ (b : Bool). FollowsIf b k bytes (is_stored received) f r got.told g t) (with_nothing (can_say k) (has_come received) silent) got.follows in
-    (is.2, is.1)
+plain_packet : (k : EdgeRules) (stored : Bool) (bytes : List ℕ) (ssrc : ℕ) (brought : Option MediaPacket) (f : Option Followed) (r : Receiver) (answer : Result Unit AllocError) (g : Option Followed) (t : Receiving)
+    → brought_at k ssrc bytes ≡ brought → ((m : MediaPacket) → brought_at k ssrc bytes ≡ Some m → edge_of k m ≡ None) → FollowsPacket k brought stored ssrc f r answer g t → t ≡ r.packets
+plain_packet k stored bytes ssrc None f r answer g t brings plain h = h.2
+plain_packet k stored bytes ssrc (Some m) f r answer g t brings plain h =
+    plain_edge (sender_in ssrc r) (number_in r m.number) stored (option_map (checked_for (sender_in ssrc r) (number_in r m.number)) f) r answer g t
+    (subst (λ (o : Option Edge). FollowsEdge (sender_in ssrc r) (number_in r m.number) (edge_if stored (at_edge o)) (option_map (checked_for (sender_in ssrc r) (number_in r m.number)) f) r.packets answer g t) (plain m brings) h)
+
+plain_ssrc : (k : EdgeRules) (stored : Bool) (bytes : List ℕ) (ssrc : Option ℕ) (f : Option Followed) (r : Receiver) (answer : Result Unit AllocError) (g : Option Followed) (t : Receiving)
+    → ((ssrc : ℕ) (m : MediaPacket) → brought_at k ssrc bytes ≡ Some m → edge_of k m ≡ None) → FollowsFor k bytes stored ssrc f r answer g t → t ≡ r.packets
+plain_ssrc k stored bytes None f r answer g t plain h = h.2
+plain_ssrc k stored bytes (Some ssrc) f r answer g t plain h = plain_packet k stored bytes ssrc (brought_at k ssrc bytes) f r answer g t refl (plain ssrc) h
+
+pub plain_still : (k : EdgeRules) (bytes : List ℕ) (received : Result Outcome ReceiveError) (f : Option Followed) (r : Receiver) (g : Option Followed) (t : Receiver)
+    → ((ssrc : ℕ) (m : MediaPacket) → brought_at k ssrc bytes ≡ Some m → edge_of k m ≡ None) → FollowsEdges k bytes received f r g t → t ≡ r
+plain_still k bytes received f r g t plain got = by (can_say k && has_come received) got.follows
+  where
+    by : (follows : Bool) → FollowsIf follows k bytes (is_stored received) f r got.told g t → t ≡ r
+    by false h = h.2
+    by true h = receiver_stays r t got.beside (plain_ssrc k (is_stored received) bytes r.ssrc f r got.told g t.packets plain h)
 
 module _ (nothing : FindsNothing) (s : Sender) (order : SendsInOrder s) (alone : HasMediaAlone s) where
   -- the edges heard of packets of the sender alone

@@ -5,11 +5,13 @@ pub mod EdgeSteps
 pub mod ExampleLemmas
 pub mod NearLemmas
 pub mod PlaceLemmas
+pub mod PlainLemmas
 pub mod RedCalls
 pub mod RedExampleLemmas
 pub mod RedLogs
 pub mod RedUnits
 pub mod SentLemmas
+pub mod ShowLemmas
 pub mod ShownLemmas
 pub mod StreamLogs
 pub mod TellLemmas

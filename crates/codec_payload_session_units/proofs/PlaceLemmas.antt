@@ -20,7 +20,7 @@ use Rattle.codec_payload_session_units.specs.OneSender.{SendsAll}
 
 -- ---- lists
 
-index_is : (xs : List (List ℕ)) (k : ℕ) (d : List ℕ) → slice_get xs k ≡ Some d → slice_index_or xs k [] ≡ d
+pub index_is : (xs : List (List ℕ)) (k : ℕ) (d : List ℕ) → slice_get xs k ≡ Some d → slice_index_or xs k [] ≡ d
 index_is [] k d there = absurd (cc)
 index_is (x ∷ xs) zero d there = cc
 index_is (x ∷ xs) (suc k) d there = index_is xs k d there
@@ -30,12 +30,12 @@ index_get [] k = refl
 index_get (x ∷ xs) zero = refl
 index_get (x ∷ xs) (suc k) = index_get xs k
 
-get_front : (xs ys : List (List ℕ)) (k : ℕ) (d : List ℕ) → k < length xs → slice_get (xs ++ ys) k ≡ Some d → slice_get xs k ≡ Some d
+pub get_front : (xs ys : List (List ℕ)) (k : ℕ) (d : List ℕ) → k < length xs → slice_get (xs ++ ys) k ≡ Some d → slice_get xs k ≡ Some d
 get_front [] ys k d below there = absurd (omega (arith, below))
 get_front (x ∷ xs) ys zero d below there = there
 get_front (x ∷ xs) ys (suc k) d below there = get_front xs ys k d (omega (arith, below)) there
 
-get_behind : (xs ys : List (List ℕ)) (k : ℕ) (d : List ℕ) → length xs ≤ k → slice_get (xs ++ ys) k ≡ Some d → slice_get ys (k - length xs) ≡ Some d
+pub get_behind : (xs ys : List (List ℕ)) (k : ℕ) (d : List ℕ) → length xs ≤ k → slice_get (xs ++ ys) k ≡ Some d → slice_get ys (k - length xs) ≡ Some d
 get_behind [] ys k d above there = let same : k - 0 ≡ k = omega arith in subst (λ (n : ℕ). slice_get ys n ≡ Some d) (sym same) there
 get_behind (x ∷ xs) ys zero d above there = absurd (omega (arith, above))
 get_behind (x ∷ xs) ys (suc k) d above there =

@@ -67,7 +67,7 @@ module _ (k : EdgeRules) (again : Option RetransmissionStream) (stream : Outgoin
   undescribed : (index : ℕ) (q : Packet) (d : List ℕ) → slice_get datagrams index ≡ Some d → ReadsAs stream q d → bytes_for k.descriptor (elements_of (packet_at stream q).header.extension) ≡ None
   undescribed index q d there reads = plain index d (packet_at stream q) there reads
 
-  original_of : Packet → MediaPacket
+  abbrev original_of : Packet → MediaPacket
   original_of q = record { number = q.number % 2 ^ 16; marker = q.marker; extension = (packet_at stream q).header.extension; bytes = q.payload }
 
   original_brings : (index : ℕ) (q : Packet) (d : List ℕ) (m : MediaPacket) → slice_get datagrams index ≡ Some d → ReadsAs stream q d → brought_at k stream.ssrc d ≡ Some m → Brings k q m
@@ -77,19 +77,15 @@ module _ (k : EdgeRules) (again : Option RetransmissionStream) (stream : Outgoin
       let made : brought_at k stream.ssrc d ≡ Some (original_of q) = rw (reads, own, media) refl in
       subst (Brings k q) (some_same (original_of q) m (sym made ∙ is)) (record { number = refl; marker = refl; bytes = refl; undescribed = undescribed index q d there reads })
 
-  again_of : Packet → MediaPacket
+  abbrev again_of : Packet → MediaPacket
   again_of q = record { number = q.number % 2 ^ 16 / 256 % 256 * 256 + q.number % 2 ^ 16 % 256; marker = q.marker; extension = (packet_at stream q).header.extension; bytes = q.payload }
 
   again_made : (s : RetransmissionStream) (next index : ℕ) (q : Packet) (d : List ℕ) (m : MediaPacket) (typed : Bool) → slice_get datagrams index ≡ Some d → ReadsAs stream q d → has_type k.retransmission s.payload_type ≡ typed
-      → whole (header_again s next stream q) (q.number % 2 ^ 16 / 256 % 256 * 256 + q.number % 2 ^ 16 % 256) (cond typed (Some q.payload) (cond (has_type k.red_again s.payload_type) None None)) ≡ Some m → Brings k q m
+      → whole (header_again s next stream q) (q.number % 2 ^ 16 / 256 % 256 * 256 + q.number % 2 ^ 16 % 256) (cond typed (Some q.payload) None) ≡ Some m → Brings k q m
   again_made s next index q d m true there reads typed is =
       let number : q.number % 2 ^ 16 / 256 % 256 * 256 + q.number % 2 ^ 16 % 256 ≡ q.number % 2 ^ 16 = omega arith in
       subst (Brings k q) (some_same (again_of q) m is) (record { number = number; marker = refl; bytes = refl; undescribed = undescribed index q d there reads })
-  again_made s next index q d m false there reads typed is = by (has_type k.red_again s.payload_type) is
-    where
-      by : (b : Bool) → whole (header_again s next stream q) (q.number % 2 ^ 16 / 256 % 256 * 256 + q.number % 2 ^ 16 % 256) (cond b None None) ≡ Some m → Brings k q m
-      by true got = absurd (cc)
-      by false got = absurd (cc)
+  again_made s next index q d m false there reads typed is = absurd (cc)
 
   again_brings : (s : RetransmissionStream) (next index : ℕ) (q : Packet) (d bytes : List ℕ) (m : MediaPacket) → s.ssrc ≢ stream.ssrc → slice_get datagrams index ≡ Some d → ReadsAs stream q d
       → IsRetransmission s next d bytes → brought_at k stream.ssrc bytes ≡ Some m → Brings k q m
@@ -300,11 +296,11 @@ module _ (nothing : FindsNothing) (vp8 : Vp8SendsInOrder) (vp9 : Vp9SendsInOrder
             (λ marker bytes. ap (λ (c : Codec). edge_by c marker bytes) codec);
       }
   vp8_followed None (answer ∷ answers) steps parts codec = silent (λ bytes r here.
-    let part : IsPartOf (pictures_of (answer ∷ answers)) here.index here.datagram = parts here.index here.datagram here.there in
-    let packet : part.packet ≡ packet_at sender.stream here.packet = ok_is part.packet (packet_at sender.stream here.packet) (sym part.reads ∙ here.reads) in
-    let payload : here.packet.payload ≡ payload_at (pictures_of (answer ∷ answers)) part.picture part.place = sym (ap (λ (p : rtp.Packet). p.payload) packet) ∙ part.payload in
-    ap (λ (c : Codec). edge_by c here.packet.marker here.packet.payload) codec
-    ∙ (ap (vp8_edge here.packet.marker) payload ∙ plain_payload (pictures_of (answer ∷ answers)) part.picture part.place part.within (steps_plain (answer ∷ answers) steps) here.packet.marker))
+      let part : IsPartOf (pictures_of (answer ∷ answers)) here.index here.datagram = parts here.index here.datagram here.there in
+      let packet : part.packet ≡ packet_at sender.stream here.packet = ok_is part.packet (packet_at sender.stream here.packet) (sym part.reads ∙ here.reads) in
+      let payload : here.packet.payload ≡ payload_at (pictures_of (answer ∷ answers)) part.picture part.place = sym (ap (λ (p : rtp.Packet). p.payload) packet) ∙ part.payload in
+      ap (λ (c : Codec). edge_by c here.packet.marker here.packet.payload) codec
+      ∙ (ap (vp8_edge here.packet.marker) payload ∙ plain_payload (pictures_of (answer ∷ answers)) part.picture part.place part.within (steps_plain (answer ∷ answers) steps) here.packet.marker))
 
   vp9_followed : (s : _) (answers : List Answer) → AreSteps (Vp9Packetizing s) answers → ArePartsOf (pictures_of answers) datagrams → k.codec ≡ codecs.Vp9 → Followed
   vp9_followed s [] steps parts codec = no_copy parts
