@@ -10,6 +10,7 @@ mod changes;
 pub mod checks;
 mod compound;
 mod dues;
+mod edges;
 mod events;
 mod exchange;
 #[doc(hidden)]

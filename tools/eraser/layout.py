@@ -20,7 +20,7 @@ HOMES = {"bandwidth_pacer": {"pacer": "bandwidth", "resends": "bandwidth"}, "ban
          "datagrams": {"choice": "receiver", "kinds": "receiver", "parsed": "receiver"},
          "session_formats": {"checks": "session", "formats": "session", "names": "session", "sort": "session", "tick_rate": "session"},
          "session_requests": {"late": "session", "named": "session", "requests": "session", "transports": "session"},
-         "session_stream": {"arrival": "session", "changes": "session", "dues": "session", "events": "session", "pairs": "session", "renegotiation": "session", "reports": "session", "stream": "session", "telephone": "session", "times": "session", "trips": "session", "waking": "session"}}
+         "session_stream": {"arrival": "session", "changes": "session", "dues": "session", "edges": "session", "events": "session", "pairs": "session", "renegotiation": "session", "reports": "session", "stream": "session", "telephone": "session", "times": "session", "trips": "session", "waking": "session"}}
 # Names of lower crates that are public for the crates above alone. In the one crate no user sees them.
 WITHIN_CRATE = {
     ("metadata", "known.rt"): "are_plain drop_rare is_plain last_sender_info marker number plain_meta received seq_no take time values",
@@ -37,20 +37,20 @@ WITHIN_CRATE = {
     ("session_formats", "sort.rt"): "SortedPacket sort",
     ("receiver", "tick_rate.rt"): "limits_at ticks_at_if",
     ("session_requests", "requests.rt"): "Feedback answer_if ask_keyframe begin has_requested hear original_number request_counts requests_due rest_time round_trip set_reported source_for take_due wait_by",
-    ("session_requests", "named.rt"): "NamedReceiver begin finish inner pop_unit receive report set_retransmission set_wait_limits",
+    ("session_requests", "named.rt"): "NamedReceiver begin finish follow inner pop_unit receive report set_retransmission set_wait_limits",
     ("session_requests", "late.rt"): "follow late_for limit_by",
     ("session_requests", "transports.rt"): "note reporter_for restart take_due time_of transport_deadline",
     ("session_stream", "arrival.rt"): "arrival_of feed_one",
-    ("session_stream", "changes.rt"): "continues leave_behind",
+    ("session_stream", "changes.rt"): "continues leave_behind tell_names",
     ("session_stream", "dues.rt"): "due_in",
     ("session_stream", "events.rt"): "report_event transport_event with_unit",
     ("session_stream", "pairs.rt"): "pair remove_pair with_pair",
     ("session_stream", "renegotiation.rt"): "leave_formats",
     ("session_stream", "reports.rt"): "note_packet peek_report report start_fraction",
-    ("session_stream", "stream.rt"): "Step StreamState Turn begin info is_former is_left_behind is_no_memory is_nothing is_on_probation is_playing leave_if request_keyframe set_round_trip_if step take wait_if",
+    ("session_stream", "stream.rt"): "Step StreamState Turn begin info is_former is_left_behind is_no_memory is_nothing is_on_probation is_playing leave_if request_keyframe step take wait_if",
     ("session_stream", "telephone.rt"): "Noted TelephonePacket TelephoneQueue dropped is_empty none note settle take",
     ("session_stream", "times.rt"): "earlier",
-    ("session_stream", "trips.rt"): "tell_all tell_round_trip",
+    ("session_stream", "trips.rt"): "set_round_trip_if tell_all tell_round_trip",
     ("session_stream", "waking.rt"): "Waking except find forget grow holds step_due step_excepted unknown",
 }
 # Modules with another name in the one crate.

@@ -19,7 +19,7 @@ use Rattle.codec_payload_rtcp.specs.declared.packet.RtcpError.{RtcpError}
 use Rattle.codec_payload_session_stream.proofs.QuietLemmas.{quiet_length}
 use Rattle.codec_payload_session_stream.proofs.ReportLemmas.{noted_length}
 use Rattle.codec_payload_session_stream.specs.Arrivals.{Arrives, arrival_of}
-use Rattle.codec_payload_session.specs.Arrivals.{BeginsIf, BeginsOrFeeds, BeginsWith, Feeds, FeedsIf, Port, StaysEmpty, TakesIn, TakesInAs, added, has_place, left_if, left_where, on_probation, taken_of, without, TakesMedia}
+use Rattle.codec_payload_session.specs.Arrivals.{BeginsIf, BeginsOrFeeds, BeginsWith, Feeds, FeedsIf, Port, StaysEmpty, TakesIn, TakesInAs, added, begun_in, has_place, left_if, left_where, on_probation, taken_of, without, TakesMedia}
 use Rattle.codec_payload_session.specs.Ports.{IsPort, ReportsIf, counted, counted_if, taken_in}
 use Rattle.codec_payload_session_stream.specs.Reports.{noted_at, noted_in, reported_by}
 use Rattle.codec_payload_session.proofs.ChangeLemmas.{length_continued, taken_continued}
@@ -30,9 +30,8 @@ use Rattle.codec_payload_session_requests.specs.Late.{limit_by}
 use Rattle.codec_payload_session_formats.specs.Names.{names_after}
 use Rattle.codec_payload_rtp.specs.RtpReading.{rtp_at}
 use Rattle.codec_payload_session_requests.specs.Requests.{Asking, heard_by, number_at, wait_by}
-use Rattle.codec_payload_session_stream.specs.Trips.{with_round_trip}
 use Rattle.codec_payload_session.proofs.ReportingLemmas.{exchanged_keeps}
-use Rattle.codec_payload_session_stream.specs.Streams.{Drains, Follows, Plays, RequestsBy, RestsBy, Steps, StepsBy, Takes, end_of, heard_unless, is_accepted, is_no_memory, is_of, is_probation, late_followed, late_noted, left_when, payload_size, received, trip_if, trip_when, trips_where, waiting_for, waiting_if, waiting_when, waiting_where}
+use Rattle.codec_payload_session_stream.specs.Streams.{Drains, Follows, Plays, RequestsBy, RestsBy, Steps, StepsBy, Takes, end_of, heard_unless, is_accepted, is_no_memory, is_of, is_probation, late_followed, late_noted, left_when, payload_size, received, trip_if, trip_when, trips_where, waiting_for, waiting_if, waiting_when, waiting_where, with_edges}
 use Rattle.codec_payload_session_stream.specs.Turns.{AreQuiet}
 use Rattle.codec_payload_session.specs.Turns.{TakesTurn, ended_after, kept_after}
 use Rattle.codec_payload_session_formats.specs.declared.formats.Format.{Format}
@@ -115,12 +114,12 @@ late_taken false now bytes s = refl
 
 takes_taken : (now : Ticks) (probation : ℕ) (bytes : List ℕ) (s : StreamState) (told : Result Outcome ReceiveError) (t : StreamState) → Takes now probation bytes s told t
     → t.taken ≡ taken_unless (is_no_memory told) s.taken
-takes_taken now probation bytes s told t got = ap (λ (x : StreamState). x.taken) got.2 ∙ by_test (is_no_memory told)
+takes_taken now probation bytes s told t got = ap (λ (x : StreamState). x.taken) got.3 ∙ by_test (is_no_memory told)
   where
-    same : (late_followed (is_ok told) now.0 bytes (received now.0 bytes (is_accepted told) got.0 s)).taken ≡ s.taken
-    same = late_taken (is_ok told) now.0 bytes (received now.0 bytes (is_accepted told) got.0 s) ∙ received_taken now.0 bytes (is_accepted told) got.0 s
+    same : (late_followed (is_ok told) now.0 bytes (received now.0 bytes (is_accepted told) got.0 (with_edges got.0 got.1 s))).taken ≡ s.taken
+    same = late_taken (is_ok told) now.0 bytes (received now.0 bytes (is_accepted told) got.0 (with_edges got.0 got.1 s)) ∙ received_taken now.0 bytes (is_accepted told) got.0 (with_edges got.0 got.1 s)
 
-    by_test : (b : Bool) → (heard_unless b now.0 probation (is_accepted told) (payload_size (rtp_at bytes)) (late_followed (is_ok told) now.0 bytes (received now.0 bytes (is_accepted told) got.0 s))).taken ≡ taken_unless b s.taken
+    by_test : (b : Bool) → (heard_unless b now.0 probation (is_accepted told) (payload_size (rtp_at bytes)) (late_followed (is_ok told) now.0 bytes (received now.0 bytes (is_accepted told) got.0 (with_edges got.0 got.1 s)))).taken ≡ taken_unless b s.taken
     by_test true = same
     by_test false = ap next same
 
@@ -217,7 +216,7 @@ adds most s p place within =
 begins_keep : (settings : SessionSettings) (c : ArrivalCounts) (ssrc : ℕ) (f : Format) (now : Ticks) (bytes : List ℕ) (p : Port) (answer : Result Arrival AllocError) (q : Port)
     → has_place settings.max_streams p ≡ true → BeginsWith settings ssrc f now bytes p answer q → IsPort settings p c → Keeps settings c q answer
 begins_keep settings c ssrc f now bytes p answer q place got kept =
-    let taken : got.after.taken ≡ taken_unless (is_no_memory got.told) got.stream.taken = takes_taken now settings.probation bytes (with_round_trip p.exchange.round_trip got.stream) got.told got.after got.takes in
+    let taken : got.after.taken ≡ taken_unless (is_no_memory got.told) got.stream.taken = takes_taken now settings.probation bytes (begun_in ssrc p got.stream) got.told got.after got.takes in
     let one : got.after.taken ≡ 1 = taken ∙ ap (λ (b : Bool). taken_unless b got.stream.taken) got.received ∙ ap next got.begins.taken in
     let it : Adds settings.max_streams got.after p (added settings.max_streams got.after p) = adds settings.max_streams got.after p place kept.bounded in
     keeps_by settings c (added settings.max_streams got.after p) q answer (Ok (arrival_of ssrc f.payload_type got.told)) got.answers got.left

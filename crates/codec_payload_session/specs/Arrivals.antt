@@ -21,6 +21,8 @@ use Rattle.codec_payload_session_formats.specs.declared.formats.Format.{Format}
 use Rattle.codec_payload_session_formats.specs.declared.formats.SessionSettings.{SessionSettings}
 use Rattle.codec_payload_session_stream.specs.declared.arrival.Arrival.{Arrival}
 use Rattle.codec_payload_session_stream.specs.declared.arrival.Arrival.TheVariants as arrivals
+use Rattle.codec_payload_session_formats.specs.Names.{no_names}
+use Rattle.codec_payload_session_formats.specs.declared.names.StreamNames.{StreamNames}
 use Rattle.codec_payload_session_formats.specs.Sorting.{Sorted, sorted_at}
 use Rattle.codec_payload_session_formats.specs.Sorting as sorted
 use Rattle.codec_payload_session_stream.specs.declared.stream.Ending.{Ending}
@@ -166,13 +168,32 @@ without (Some place) p = removed place p
 abbrev pub added : ℕ → StreamState → Port → Port
 added most s p = without (leaving most p.streams) (record p { streams = p.streams ++ s ∷ [] })
 
--- a new stream follows the round trip of the session, receives the datagram, and is added
+abbrev pub has_ssrc : ℕ → StreamState → Bool
+has_ssrc ssrc s = s.ssrc == ssrc
+
+-- the names of the first stream of the SSRC
+abbrev pub names_with : Option StreamState → StreamNames
+names_with None = no_names
+names_with (Some s) = s.names
+
+abbrev pub names_at : Option ℕ → List StreamState → StreamNames
+names_at None ss = no_names
+names_at (Some place) ss = names_with (slice_get ss place)
+
+abbrev pub names_among : ℕ → List StreamState → StreamNames
+names_among ssrc ss = names_at (position (has_ssrc ssrc) ss) ss
+
+-- a new stream follows the round trip of the session, and has the names of its SSRC
+abbrev pub begun_in : (ssrc : ℕ) → Port → StreamState → StreamState
+begun_in ssrc p s = record (with_round_trip p.exchange.round_trip s) { names = names_among ssrc p.streams }
+
+-- it receives the datagram, and is added
 pub record BeginsWith (settings : SessionSettings) (ssrc : ℕ) (f : Format) (now : Ticks) (bytes : List ℕ) (p : Port) (answer : Result Arrival AllocError) (q : Port) : Type 0 where
   pub stream : StreamState
   pub after : StreamState
   pub told : Result Outcome ReceiveError
   pub begins : Begins settings ssrc f stream
-  pub takes : Takes now settings.probation bytes (with_round_trip p.exchange.round_trip stream) told after
+  pub takes : Takes now settings.probation bytes (begun_in ssrc p stream) told after
   pub received : is_no_memory told ≡ false
   pub answers : answer ≡ Ok (arrival_of ssrc f.payload_type told)
   pub left : q ≡ added settings.max_streams after p
@@ -199,9 +220,6 @@ pub record TakesMedia (settings : SessionSettings) (ssrc : ℕ) (f : Format) (no
 
 -- ---- any datagram; RTCP ends the streams that its BYE names, states clocks of streams by its sender reports, and the round trip by its
 -- extended reports
-
-abbrev pub has_ssrc : ℕ → StreamState → Bool
-has_ssrc ssrc s = s.ssrc == ssrc
 
 abbrev pub TakesInAs : Sorted → SessionSettings → Ticks → List ℕ → Port → Result Arrival AllocError → Port → Type 0
 TakesInAs sorted.Rtcp settings now bytes p answer q =

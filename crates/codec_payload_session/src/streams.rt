@@ -10,7 +10,7 @@ ghost use Rattle.codec_payload_session_formats.specs.Sorting.{sorted_packet, sor
 ghost use Rattle.codec_payload_session_stream.specs.Streams.{due_in, is_of, trip_if, trips_where, waiting_if, waiting_where};
 ghost use Rattle.codec_payload_session_stream.specs.Turns.{StepsFirst};
 ghost use Rattle.codec_payload_session.specs.Turns.{TakesTurn, after_step, told_by};
-ghost use Rattle.codec_payload_session.specs.Arrivals.{BeginsIf, BeginsOrFeeds, Feeds, TakesIn, TakesInAs, added, has_place, has_ssrc, includes, leaving, left_if, left_where, on_probation, removed, say_goodbye, TakesMedia};
+ghost use Rattle.codec_payload_session.specs.Arrivals.{BeginsIf, BeginsOrFeeds, Feeds, TakesIn, TakesInAs, added, has_place, has_ssrc, includes, leaving, left_if, left_where, names_among, on_probation, removed, say_goodbye, TakesMedia};
 ghost use Rattle.codec_payload_session_stream.specs.Arrivals.{arrival_of};
 ghost use Rattle.codec_payload_session.specs.Ports.{ReportsIf, ReportsOn, everyone, no_port};
 ghost use Rattle.codec_payload_session_stream.specs.declared.stream.Ending.TheVariants as endings;
@@ -33,6 +33,7 @@ use codec_payload_rtcp::compound::{CompoundRule, Packets, read_compound};
 use codec_payload_rtcp::items::ReportBlock;
 use codec_payload_rtp::rtp::PacketHeader;
 use codec_payload_session_formats::formats::{Format, SessionSettings, SsrcPair};
+use codec_payload_session_formats::names::StreamNames;
 use codec_payload_session_formats::sort::{SortedPacket, sort};
 use codec_payload_session_stream::arrival::{Arrival, arrival_of, feed_one};
 use codec_payload_session_stream::changes::{continues, leave_behind};
@@ -305,6 +306,16 @@ impl Streams {
         self.ssrcs.find(ssrc, 0)
     }
 
+    /// Returns the names of the first stream of this SSRC.
+    fn names_of_ssrc(&self, ssrc: u32) -> StreamNames
+        ensures { result ≡ names_among ssrc self.now.streams }
+    {
+        match self.place_of_ssrc(ssrc) {
+            Some(place) => self.list[place].names,
+            None => StreamNames::default(),
+        }
+    }
+
     /// Passes a datagram to the stream at this place.
     #[inline(always)]
     fn feed(
@@ -341,6 +352,7 @@ impl Streams {
         let (ssrc, format) = of;
         let mut stream = StreamState::begin(self.alloc, settings, ssrc, &format)?;
         stream.tell_round_trip(self.exchange.round_trip);
+        stream.tell_names(self.names_of_ssrc(ssrc));
         let answer = stream.take(now, settings.probation, datagram);
         if is_no_memory(&answer) {
             return Err(AllocError);

@@ -4,7 +4,7 @@ ghost use Rattle.std.specs.Prelude.{◌≡◌, IfOk, OnOk, false};
 ghost use Rattle.codec_payload_jitter.specs.Missing.{missing_numbers};
 ghost use Rattle.codec_payload_codec.specs.Depacketizers.{depacketizer_state_of};
 ghost use Rattle.codec_payload_receiver.specs.Pops.{NamesFault, PopsGated, answer_of, is_large, is_too_large};
-ghost use Rattle.codec_payload_session_requests.specs.Named.{popped_with};
+ghost use Rattle.codec_payload_session_requests.specs.Named.{FollowsEdges, popped_with};
 ghost use Rattle.codec_payload_numbers.specs.Reports.{report_of, reported};
 ghost use Rattle.codec_payload_receiver.specs.Sessions.{Ends, ReceivesBytes, is_none_of, session_by};
 
@@ -19,6 +19,8 @@ use codec_payload_receiver::receiver::{
     ReceiveError, Receiver, Retransmission, Settings, SettingsError,
 };
 use codec_payload_receiver::reports::ReceptionReport;
+use codec_payload_stream_edges::following::StreamEdges;
+use codec_payload_stream_edges::rules::EdgeRules;
 use std::alloc::{AllocError, Global};
 use std::marker::Model;
 
@@ -88,6 +90,22 @@ impl NamedReceiver {
         ensures received { ReceivesBytes now datagram.now self.old result self.new }
     {
         self.receiver.receive_parsed(now, datagram)
+    }
+
+    /// Follows a datagram by the edges of the stream's pictures, and records which numbers carry no media. `answer` is what
+    /// [`NamedReceiver::receive`] returned for it. If memory runs out, fewer numbers are recorded, and nothing else differs. See
+    /// [`StreamEdges::follow`].
+    #[inline(always)]
+    pub fn follow(
+        &mut self,
+        edges: &mut StreamEdges,
+        rules: &EdgeRules,
+        datagram: &ParsedDatagram<'_>,
+        answer: &Result<Outcome, ReceiveError>,
+    )
+        ensures { FollowsEdges rules.now datagram.now answer.now edges.old self.old edges.new self.new }
+    {
+        let _ = edges.follow(rules, &mut self.receiver, datagram, answer);
     }
 
     /// Pops the next unit into `unit`, or returns a refused frame. See [`Receiver::pop_unit`].

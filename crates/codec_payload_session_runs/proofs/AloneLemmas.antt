@@ -1,12 +1,14 @@
 -- Runs of a receiver alone, and projections of runs to it.
-use Rattle.std.proofs.Common.{◌≡◌, ◌∙◌, refl, sym, ap, subst, ℕ, ◌+◌, Bool, true, false, List, [], ◌∷◌, ◌++◌, append_assoc, append-nil, Option, arith}
+use Rattle.std.proofs.Common.{◌≡◌, ◌∙◌, refl, sym, ap, subst, ℕ, ◌+◌, Bool, true, false, List, [], ◌∷◌, ◌++◌, append_assoc, append-nil, Option, None, arith}
 use Rattle.codec_payload_base.specs.declared.wire.Ticks.{Ticks}
 use Rattle.codec_payload_receiver.specs.Sessions.{Session as Receiver}
 use Rattle.codec_payload_session_formats.specs.declared.formats.Format.{Format}
 use Rattle.codec_payload_session_stream.specs.Units.{Event}
 use Rattle.codec_payload_session_stream.specs.declared.events.Event.TheVariants as events
-use Rattle.codec_payload_session_runs.specs.Lives.{AreInOrder, AreMadeBy, AreOfOne, FollowedWaits, HasNoPair, IsMadeBy, IsPairFirst, IsPart, Projects, ReceiverCall, RunsAlone, events_in, events_of, finishes, follows, is_finish, is_pair, is_pop, is_report, is_shown, many_finishes, many_pops, many_reports, one_more, pairs, pops, receives, reports, shown, shown_in, shown_of, waits, with_shown}
+use Rattle.codec_payload_session_runs.specs.Lives.{AreInOrder, AreMadeBy, AreOfOne, FollowedWaits, HasNoPair, IsMadeBy, IsPairFirst, IsPart, Projects, ReceiverCall, RunsAlone, events_in, events_of, finishes, follows, is_finish, is_pair, is_pop, is_report, is_shown, many_finishes, many_pops, many_reports, one_more, pairs, pops, receives, reports, shown, shown_in, shown_of, waits, with_shown, Answered, EdgesRun, FollowEach, GoesOnFrom, edges_after, followed_by, notes, to_follow}
 use Rattle.codec_payload_session_runs.specs.SessionRuns.{Call}
+use Rattle.codec_payload_stream_edges.specs.declared.followed.Followed.{Followed}
+use Rattle.codec_payload_stream_edges.specs.declared.rules.EdgeRules.{EdgeRules}
 use Rattle.codec_payload_session_runs.specs.declared.run.SessionStep.TheVariants as steps
 use Rattle.codec_payload_session_runs.specs.declared.run.StepAnswer.TheVariants as answers
 
@@ -57,6 +59,7 @@ polled_is ssrc f w now event (waits limits) made = refl
 polled_is ssrc f w now event (follows wait) made = refl
 polled_is ssrc f w now event (pairs retransmission) made = absurd made
 polled_is ssrc f w now event reports made = refl
+polled_is ssrc f w now event (notes e) made = absurd made
 
 polled_none : (ssrc : ℕ) (f : Format) (w : FollowedWaits) (now : Ticks) (event : Option Event) (cs : List ReceiverCall) → AreMadeBy ssrc f w (poll_of now event) cs → HasNoPair cs
 polled_none ssrc f w now event [] made = tt
@@ -65,6 +68,46 @@ polled_none ssrc f w now event (c ∷ cs) made = (polled_is ssrc f w now event c
 pub polled_first : (ssrc : ℕ) (f : Format) (w : FollowedWaits) (now : Ticks) (event : Option Event) (cs : List ReceiverCall) → AreMadeBy ssrc f w (poll_of now event) cs → IsPairFirst cs
 polled_first ssrc f w now event [] made = tt
 polled_first ssrc f w now event (c ∷ cs) made = polled_none ssrc f w now event cs made.1
+
+-- ---- the edges of its pictures
+
+pub edges_append : (k : EdgeRules) (f : Option Followed) (cs ds : List ReceiverCall) (g h : Option Followed) → EdgesRun k f cs g → EdgesRun k g ds h → EdgesRun k f (cs ++ ds) h
+edges_append k f [] ds g h run later = subst (λ (x : Option Followed). EdgesRun k x ds h) run later
+edges_append k f (c ∷ cs) ds g h run later = (run.0, edges_append k (edges_after f c) cs ds g h run.1 later)
+
+pub each_append : (last : Option Answered) (cs ds : List ReceiverCall) → FollowEach last cs → FollowEach None ds → FollowEach last (cs ++ ds)
+each_append last [] ds each later = subst (λ (x : Option Answered). FollowEach x ds) (sym each) later
+each_append last (c ∷ cs) ds each later = (each.0, each_append (to_follow c) cs ds each.1 later)
+
+-- a call of which the edges know nothing
+record IsBeside (c : ReceiverCall) : Type 0 where
+  follows_none : followed_by c ≡ None
+  leaves_none : to_follow c ≡ None
+  goes_on : (k : EdgeRules) (f : Option Followed) → GoesOnFrom k f c
+  same : (f : Option Followed) → edges_after f c ≡ f
+
+polled_beside : (ssrc : ℕ) (f : Format) (w : FollowedWaits) (now : Ticks) (event : Option Event) (c : ReceiverCall) → IsMadeBy ssrc f w (poll_of now event) c → IsBeside c
+polled_beside ssrc f w now event (receives at bytes answer) made = absurd made
+polled_beside ssrc f w now event (pops at answer) made = record { follows_none = refl; leaves_none = refl; goes_on = λ k g. tt; same = λ g. refl }
+polled_beside ssrc f w now event finishes made = record { follows_none = refl; leaves_none = refl; goes_on = λ k g. tt; same = λ g. refl }
+polled_beside ssrc f w now event (waits limits) made = absurd made
+polled_beside ssrc f w now event (follows wait) made = absurd made
+polled_beside ssrc f w now event (pairs retransmission) made = absurd made
+polled_beside ssrc f w now event reports made = record { follows_none = refl; leaves_none = refl; goes_on = λ k g. tt; same = λ g. refl }
+polled_beside ssrc f w now event (notes e) made = absurd made
+
+pub polled_each : (ssrc : ℕ) (f : Format) (w : FollowedWaits) (now : Ticks) (event : Option Event) (cs : List ReceiverCall) → AreMadeBy ssrc f w (poll_of now event) cs → FollowEach None cs
+polled_each ssrc f w now event [] made = refl
+polled_each ssrc f w now event (c ∷ cs) made =
+    let is = polled_beside ssrc f w now event c made.0 in
+    (sym is.follows_none, subst (λ (x : Option Answered). FollowEach x cs) (sym is.leaves_none) (polled_each ssrc f w now event cs made.1))
+
+-- a poll leaves the edges as they are
+pub polled_edges : (ssrc : ℕ) (f : Format) (w : FollowedWaits) (now : Ticks) (event : Option Event) (k : EdgeRules) (g : Option Followed) (cs : List ReceiverCall) → AreMadeBy ssrc f w (poll_of now event) cs → EdgesRun k g cs g
+polled_edges ssrc f w now event k g [] made = refl
+polled_edges ssrc f w now event k g (c ∷ cs) made =
+    let is = polled_beside ssrc f w now event c made.0 in
+    (is.goes_on k g, subst (λ (x : Option Followed). EdgesRun k x cs g) (sym (is.same g)) (polled_edges ssrc f w now event k g cs made.1))
 
 -- ---- projections
 

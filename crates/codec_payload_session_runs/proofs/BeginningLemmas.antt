@@ -17,7 +17,7 @@ use Rattle.codec_payload_rtp.specs.RtpReading.{rtp_at}
 use Rattle.codec_payload_session.specs.Keyframes.{asked_among, asked_with}
 use Rattle.codec_payload_session.specs.Accepting.{Accepts, noted_in, time_for}
 use Rattle.codec_payload_session_stream.specs.Arrivals.{Arrives, arrival_of}
-use Rattle.codec_payload_session.specs.Arrivals.{BeginsIf, BeginsOrFeeds, BeginsWith, Feeds, FeedsIf, Port, TakesInAs, TakesMedia, goodbye_at, has_place, left_if, left_where, on_probation, without, has_ssrc}
+use Rattle.codec_payload_session.specs.Arrivals.{BeginsIf, BeginsOrFeeds, BeginsWith, Feeds, FeedsIf, Port, TakesInAs, TakesMedia, goodbye_at, has_place, left_if, left_where, on_probation, without, has_ssrc, begun_in}
 use Rattle.codec_payload_session.specs.Associations.{AssociatesBy, pair_at}
 use Rattle.codec_payload_session_stream.specs.Changes.{continued, continues, is_left_behind}
 use Rattle.codec_payload_session.specs.Pairs.{Pairs}
@@ -28,7 +28,7 @@ use Rattle.codec_payload_session.specs.Reporting.{all_reported, is_chosen, room_
 use Rattle.codec_payload_session_stream.specs.Reports.{reported_if, noted, noted_at, reported_by, noted_in as clocks_in}
 use Rattle.codec_payload_session_formats.specs.Sorting.{Sorted, sorted_at}
 use Rattle.codec_payload_session_formats.specs.Sorting as sorted
-use Rattle.codec_payload_session_stream.specs.Streams.{Takes, accepted_after, heard_unless, is_accepted, is_no_memory, is_of, is_probation, late_followed, left_when, payload_size, received, stage_after, waiting_if, asked_for, asked_unless, is_ending}
+use Rattle.codec_payload_session_stream.specs.Streams.{Takes, accepted_after, heard_unless, is_accepted, is_no_memory, is_of, is_probation, late_followed, left_when, payload_size, received, stage_after, waiting_if, asked_for, asked_unless, is_ending, with_edges}
 use Rattle.codec_payload_session_stream.specs.Turns.{AreQuiet}
 use Rattle.codec_payload_session.specs.Turns.{TakesTurn, kept_after}
 use Rattle.codec_payload_session_stream.specs.Units.{Event}
@@ -43,7 +43,7 @@ use Rattle.codec_payload_session_stream.specs.declared.stream.Ending.TheVariants
 use Rattle.codec_payload_session_stream.specs.declared.stream.Stage.{Stage}
 use Rattle.codec_payload_session_stream.specs.declared.stream.Stage.TheVariants as stages
 use Rattle.codec_payload_session_stream.specs.declared.stream.StreamState.{StreamState}
-use Rattle.codec_payload_session_runs.proofs.EndingCallLemmas.{apart_paired, both_same, paired_same, reported_same, waited_same}
+use Rattle.codec_payload_session_runs.proofs.EndingCallLemmas.{apart_paired, both_same, paired_same, reported_same, waited_same, edged_same}
 use Rattle.codec_payload_session_stream.specs.Trips.{with_round_trip}
 use Rattle.codec_payload_session_runs.proofs.TripLemmas.{exchanged_streams, told_if}
 use Rattle.codec_payload_session_runs.proofs.EndingLemmas.{Same, steps_asked}
@@ -209,9 +209,11 @@ by_took false false now probation size told x z memory is same = record {
 
 took : (now : Ticks) (datagram : Vec ℕ) (probation : ℕ) (x : StreamState) (told : Result Outcome ReceiveError) (y : StreamState) → Takes now probation datagram.items x told y → Took probation told x y
 took now datagram probation x told y got =
-    subst (λ (z : StreamState). Took probation told x z) (sym got.2)
-    (by_took (is_no_memory told) (is_accepted told) now.0 probation (payload_size (rtp_at datagram.items)) told x (late_followed (is_ok told) now.0 datagram.items (received now.0 datagram.items (is_accepted told) got.0 x)) refl refl
-    (both_same (is_ok told) (is_accepted told) now.0 datagram.items got.0 x))
+    let edged : StreamState = with_edges got.0 got.1 x in
+    let after : StreamState = late_followed (is_ok told) now.0 datagram.items (received now.0 datagram.items (is_accepted told) got.0 edged) in
+    subst (λ (z : StreamState). Took probation told x z) (sym got.3)
+    (by_took (is_no_memory told) (is_accepted told) now.0 probation (payload_size (rtp_at datagram.items)) told x after refl refl
+    (edged_same got.0 got.1 x after (both_same (is_ok told) (is_accepted told) now.0 datagram.items got.0 edged)))
 
 -- an answer that says that the stream accepted the datagram
 arrival_accepted : (a b s p : ℕ) (told : Result Outcome ReceiveError) → accepted_as a b (Ok (arrival_of s p told)) ≡ true → (is_same a b s p ≡ true) × (is_accepted told ≡ true)
@@ -280,7 +282,7 @@ begins : (a b : ℕ) (settings : SessionSettings) (ssrc : ℕ) (f : Format) (now
 begins a b settings ssrc f now datagram p answer q room none got =
     let x : StreamState = got.stream in
     let y : StreamState = got.after in
-    let fresh : StreamState = with_round_trip p.exchange.round_trip x in
+    let fresh : StreamState = begun_in ssrc p x in
     let t : Took settings.probation got.told fresh y = took now datagram settings.probation fresh got.told y got.takes in
     let left : q ≡ record p { streams = p.streams ++ y ∷ [] } =
     got.left ∙ with_room (nat_lt (length p.streams) settings.max_streams) (position on_probation p.streams) (record p { streams = p.streams ++ y ∷ [] }) room in

@@ -21,7 +21,7 @@ use Rattle.codec_payload_session.specs.Keyframes.{asked_among, asked_with}
 use Rattle.codec_payload_session_requests.specs.declared.requests.KeyframeAnswer.{KeyframeAnswer}
 use Rattle.codec_payload_session_requests.specs.declared.requests.WaitRange.{WaitRange}
 use Rattle.codec_payload_session_stream.specs.Arrivals.{Arrives, arrival_of}
-use Rattle.codec_payload_session.specs.Arrivals.{BeginsIf, BeginsOrFeeds, BeginsWith, Feeds, FeedsIf, Port, TakesIn, TakesInAs, TakesMedia, goodbye_at, has_place, has_ssrc, left_if, left_where, on_probation, without}
+use Rattle.codec_payload_session.specs.Arrivals.{BeginsIf, BeginsOrFeeds, BeginsWith, Feeds, FeedsIf, Port, TakesIn, TakesInAs, TakesMedia, goodbye_at, has_place, has_ssrc, left_if, left_where, on_probation, without, begun_in, names_among}
 use Rattle.codec_payload_session_stream.specs.Changes.{continued, continues, is_left_behind, left_behind}
 use Rattle.codec_payload_session_stream.specs.Pairs.{paired_if, paired_when}
 use Rattle.codec_payload_session.specs.Ports.{ReportsIf}
@@ -29,10 +29,11 @@ use Rattle.codec_payload_session.specs.Reporting.{all_reported, is_chosen, room_
 use Rattle.codec_payload_session_stream.specs.Reports.{reported_if, noted, noted_at, noted_in, reported_by}
 use Rattle.codec_payload_session_formats.specs.Formats.{has_type, resends, retransmission_for, role_by, stream_of}
 use Rattle.codec_payload_session_formats.specs.Sorting.{sorted_by, sorted_retransmission, sorted_rtcp, sorted_rtp}
-use Rattle.codec_payload_session_stream.specs.Streams.{Begins, is_no_memory, is_of, is_probation, waiting_if, waiting_when, asked_for, asked_unless, is_ending}
+use Rattle.codec_payload_session_stream.specs.Streams.{Begins, is_no_memory, is_of, is_probation, waiting_if, waiting_when, asked_for, asked_unless, is_ending, Edges, edge_rules_of}
 use Rattle.codec_payload_session_stream.specs.Turns.{AreQuiet}
 use Rattle.codec_payload_session.specs.Turns.{TakesTurn, kept_after}
 use Rattle.codec_payload_session_formats.specs.declared.formats.Format.{Format}
+use Rattle.codec_payload_session_formats.specs.declared.names.StreamNames.{StreamNames}
 use Rattle.codec_payload_session_formats.specs.declared.formats.SessionSettings.{SessionSettings}
 use Rattle.codec_payload_session_formats.specs.declared.formats.SsrcPair.{SsrcPair}
 use Rattle.codec_payload_session_stream.specs.declared.arrival.Arrival.{Arrival}
@@ -42,11 +43,11 @@ use Rattle.codec_payload_session_stream.specs.declared.events.Event.TheVariants 
 use Rattle.codec_payload_session_stream.specs.declared.stream.Ending.{Ending}
 use Rattle.codec_payload_session_stream.specs.declared.stream.Ending.TheVariants as endings
 use Rattle.codec_payload_session_stream.specs.declared.stream.StreamState.{StreamState}
-use Rattle.codec_payload_session_runs.proofs.AloneLemmas.{finishes_append, made_append, poll_of, polled_first, pops_append, reports_append, runs_append, shown_append}
+use Rattle.codec_payload_session_runs.proofs.AloneLemmas.{finishes_append, made_append, poll_of, polled_first, pops_append, reports_append, runs_append, shown_append, edges_append, polled_each, polled_edges}
 use Rattle.codec_payload_session_runs.proofs.FateLemmas.{AreApart, AreFates, AreKnown, BeginsNow, Evolves, GoAll, IsFate, IsSilent, ShowsNothing, absent_middle, all_fates, all_stay, evolves_all, evolves_map, evolves_same, fates_append, found_none, mapped_all, one_goes, others_go, present, present_all, present_append, same_sym}
 use Rattle.codec_payload_session_stream.specs.Trips.{with_round_trip}
 use Rattle.codec_payload_session_runs.proofs.TripLemmas.{exchanged_streams, told_if}
-use Rattle.codec_payload_session_runs.proofs.StreamLemmas.{FinishedBy, Goes, HasPart, IsKnown, Keeps, Kind, Stepped, call_of, fed_goes, given_arrival, given_is, keeps_left, none_finished, own_waits, silent_goes, trip_ranges, steps_stepped}
+use Rattle.codec_payload_session_runs.proofs.StreamLemmas.{FinishedBy, Goes, HasPart, IsKnown, Keeps, Kind, Stepped, call_of, fed_goes, given_arrival, given_is, keeps_left, none_finished, own_waits, silent_goes, trip_ranges, steps_stepped, edges_stay}
 use Rattle.codec_payload_session_runs.proofs.WaitRangeLemmas.{asked_range}
 use Rattle.codec_payload_session_runs.specs.Lives.{AreMadeBy, AreOfOne, FollowedWaits, IsAbsent, IsMadeAs, IsPart, IsReportEvent, ReceiverCall, StartsWithDatagram, age_range, events_by, events_in, given_by, is_same, many_reports, one_call, pairs, receives, released_by, reports, shown, shown_in, waits}
 use Rattle.codec_payload_session_runs.specs.SessionRuns.{Call}
@@ -140,9 +141,9 @@ added_evolves given c false (Some i) p y silent go known begins place =
       silent = λ ssrc payload_type absent. silent ssrc payload_type;
     }
 
--- a new stream follows the round trip of the session
-told_goes : (c : Call) (round_trip : Option ℕ) (x y : StreamState) → Goes c (with_round_trip round_trip x) y → Goes c x y
-told_goes c round_trip x y goes = record {
+-- a new stream follows the round trip of the session, and has the names of its SSRC
+told_goes : (c : Call) (round_trip : Option ℕ) (names : StreamNames) (x y : StreamState) → Goes c (record (with_round_trip round_trip x) { names = names }) y → Goes c x y
+told_goes c round_trip names x y goes = record {
   has = record {
     ssrc_is = goes.has.ssrc_is;
     format = goes.has.format;
@@ -151,6 +152,8 @@ told_goes c round_trip x y goes = record {
     alone = goes.has.alone;
     is_part = subst (λ (w : FollowedWaits). IsPart x.ssrc x.format w c goes.has.part) (trip_ranges round_trip x) goes.has.is_part;
     finishes_it = goes.has.finishes_it;
+    descriptor = goes.has.descriptor;
+    edged = goes.has.edged;
   };
   tells = goes.tells;
   known = goes.known;
@@ -168,8 +171,8 @@ begins_evolve settings ssrc f now micros datagram p answer q none known got =
     got.answers ∙ ap₂ (λ (s : ℕ) (g : Format). Ok (arrival_of s g.payload_type got.told)) (sym got.begins.ssrc_is) (sym got.begins.format) in
     let arrives : Arrives (is_no_memory got.told) (arrival_of x.ssrc x.format.payload_type got.told) answer =
     subst (λ (b : Bool). Arrives b (arrival_of x.ssrc x.format.payload_type got.told) answer) (sym got.received) names in
-    let fresh : StreamState = with_round_trip p.exchange.round_trip x in
-    let goes : Goes c x y = told_goes c p.exchange.round_trip x y (fed_goes now micros datagram settings.probation fresh got.told y answer got.takes arrives) in
+    let fresh : StreamState = begun_in ssrc p x in
+    let goes : Goes c x y = told_goes c p.exchange.round_trip (names_among ssrc p.streams) x y (fed_goes now micros datagram settings.probation fresh got.told y answer got.takes arrives) in
     let ssrc_is : y.ssrc ≡ ssrc = goes.has.ssrc_is ∙ got.begins.ssrc_is in
     let format : y.format ≡ f = goes.has.format ∙ got.begins.format in
     let begins : BeginsNow settings c p.streams y = record {
@@ -220,7 +223,7 @@ media_evolves settings ssrc f now micros datagram p answer q apart known got =
 -- ---- receive: RTCP
 
 noted_keeps : (now : Ticks) (ps : List Packet) (s : StreamState) → Keeps s (noted now ps s)
-noted_keeps now ps s = record { ssrc_is = refl; format = refl; announced = refl; receiver = refl; ranges = refl; stage = λ is. is; finished = λ n got. got }
+noted_keeps now ps s = record { ssrc_is = refl; format = refl; announced = refl; receiver = refl; edges = refl; ranges = refl; stage = λ is. is; finished = λ n got. got }
 
 noted_evolves : (given : SessionSettings) (c : Call) (now : Ticks) (o : Result (List Packet) RtcpError) (ss ts : List StreamState) → Evolves given c ss ts → Evolves given c ss (noted_in now o ts)
 noted_evolves given c now (Ok ps) ss ts got = evolves_map given c (noted now ps) ss ts (noted_keeps now ps) got
@@ -230,7 +233,7 @@ left_evolves : (given : SessionSettings) (c : Call) (who : ℕ → Bool) (why : 
 left_evolves given c who why at ss ts got = evolves_map given c (left_if who why at) ss ts (λ (s : StreamState). keeps_left (who s.ssrc) why at s) got
 
 told_keeps : (round_trip : Option ℕ) (s : StreamState) → Keeps s (with_round_trip round_trip s)
-told_keeps round_trip s = record { ssrc_is = refl; format = refl; announced = refl; receiver = refl; ranges = trip_ranges round_trip s; stage = λ is. is; finished = λ n got. got }
+told_keeps round_trip s = record { ssrc_is = refl; format = refl; announced = refl; receiver = refl; edges = refl; ranges = trip_ranges round_trip s; stage = λ is. is; finished = λ n got. got }
 
 told_evolves : (b : Bool) (given : SessionSettings) (c : Call) (round_trip : Option ℕ) (ss ts : List StreamState) → Evolves given c ss ts → Evolves given c ss (told_if b round_trip ts)
 told_evolves true given c round_trip ss ts got = evolves_map given c (with_round_trip round_trip) ss ts (told_keeps round_trip) got
@@ -317,7 +320,7 @@ IsOther now event x = (events_by x.ssrc x.format.payload_type event ≡ []) × (
 -- a stream that was asked and has no event
 quiet_goes : (now : Ticks) (event : Option Event) (kept : List StreamState → List StreamState) (x y : StreamState) → IsOther now event x → Stepped now x None kept y → Goes (poll_of now event) x y
 quiet_goes now event kept x y other s = record {
-  has = record { ssrc_is = s.ssrc_is; format = s.format; ranges = s.ranges; part = s.part; alone = s.alone; is_part = record { made = s.made x.ssrc x.format (own_waits x) event; one_pop = s.one_pop; one_end = s.one_end; one_report = omega (arith, s.no_report); pair_first = polled_first x.ssrc x.format (own_waits x) now event s.part (s.made x.ssrc x.format (own_waits x) event); shows = s.shows ∙ sym other.1 }; finishes_it = s.finishes_it };
+  has = record { ssrc_is = s.ssrc_is; format = s.format; ranges = s.ranges; part = s.part; alone = s.alone; is_part = record { made = s.made x.ssrc x.format (own_waits x) event; one_pop = s.one_pop; one_end = s.one_end; one_report = omega (arith, s.no_report); pair_first = polled_first x.ssrc x.format (own_waits x) now event s.part (s.made x.ssrc x.format (own_waits x) event); follow_each = polled_each x.ssrc x.format (own_waits x) now event s.part (s.made x.ssrc x.format (own_waits x) event); shows = s.shows ∙ sym other.1 }; finishes_it = s.finishes_it; descriptor = ap (λ (e : Edges). e.descriptor) s.edges; edged = edges_stay (edge_rules_of x) s.part x.edges.followed x.edges y.edges s.edges (polled_edges x.ssrc x.format (own_waits x) now event (edge_rules_of x) x.edges.followed s.part (s.made x.ssrc x.format (own_waits x) event)) };
   tells = by_kind s.kind;
   known = s.known;
 }
@@ -344,6 +347,8 @@ reported_goes now event x y false is_new told goes none = record {
     alone = goes.has.alone;
     is_part = goes.has.is_part;
     finishes_it = goes.has.finishes_it;
+    descriptor = goes.has.descriptor;
+    edged = goes.has.edged;
   };
   tells = goes.tells;
   known = goes.known;
@@ -361,9 +366,12 @@ reported_goes now event x y true is_new told goes none = record {
       one_end = omega (arith, finishes_append goes.has.part (reports ∷ []), goes.has.is_part.one_end);
       one_report = omega (arith, reports_append goes.has.part (reports ∷ []), none);
       pair_first = polled_first x.ssrc x.format (own_waits x) now event (goes.has.part ++ reports ∷ []) made;
+      follow_each = polled_each x.ssrc x.format (own_waits x) now event (goes.has.part ++ reports ∷ []) made;
       shows = shown_append goes.has.part (reports ∷ []) ∙ (append-nil (shown goes.has.part) ∙ goes.has.is_part.shows);
     };
     finishes_it = λ n was. subst (λ (m : ℕ). FinishedBy y.stage (n + m)) (omega (arith, finishes_append goes.has.part (reports ∷ []))) (goes.has.finishes_it n was);
+    descriptor = goes.has.descriptor;
+    edged = edges_append (edge_rules_of x) x.edges.followed goes.has.part (reports ∷ []) y.edges.followed y.edges.followed goes.has.edged (tt, refl);
   };
   tells = goes.tells;
   known = goes.known;
@@ -407,7 +415,7 @@ fate_of : (now : Ticks) (event : Event) (kept : List StreamState → List Stream
 fate_of now event kept x y s = by_kind s.kind
   where
     has : HasPart (poll_of now (Some event)) x y
-    has = record { ssrc_is = s.ssrc_is; format = s.format; ranges = s.ranges; part = s.part; alone = s.alone; is_part = record { made = s.made x.ssrc x.format (own_waits x) (Some event); one_pop = s.one_pop; one_end = s.one_end; one_report = omega (arith, s.no_report); pair_first = polled_first x.ssrc x.format (own_waits x) now (Some event) s.part (s.made x.ssrc x.format (own_waits x) (Some event)); shows = s.shows }; finishes_it = s.finishes_it }
+    has = record { ssrc_is = s.ssrc_is; format = s.format; ranges = s.ranges; part = s.part; alone = s.alone; is_part = record { made = s.made x.ssrc x.format (own_waits x) (Some event); one_pop = s.one_pop; one_end = s.one_end; one_report = omega (arith, s.no_report); pair_first = polled_first x.ssrc x.format (own_waits x) now (Some event) s.part (s.made x.ssrc x.format (own_waits x) (Some event)); follow_each = polled_each x.ssrc x.format (own_waits x) now (Some event) s.part (s.made x.ssrc x.format (own_waits x) (Some event)); shows = s.shows }; finishes_it = s.finishes_it; descriptor = ap (λ (e : Edges). e.descriptor) s.edges; edged = edges_stay (edge_rules_of x) s.part x.edges.followed x.edges y.edges s.edges (polled_edges x.ssrc x.format (own_waits x) now (Some event) (edge_rules_of x) x.edges.followed s.part (s.made x.ssrc x.format (own_waits x) (Some event))) }
 
     by_kind : Kind x.announced y.announced x.ssrc x.format.payload_type (Some event) kept y
         → (f : Option StreamState) × IsFate (poll_of now (Some event)) x f × ((rest : List StreamState) → kept rest ≡ present (f ∷ all_stay rest))
@@ -474,8 +482,10 @@ waiting_goes ssrc payload_type limits true s is = record {
     ranges = refl;
     part = waits limits ∷ [];
     alone = ((waiting_when true limits s).receiver, refl, refl);
-    is_part = record { made = ((same_sym s.ssrc s.format.payload_type ssrc payload_type ∙ is, refl), tt); one_pop = omega arith; one_end = omega arith; one_report = omega arith; pair_first = tt; shows = refl };
+    is_part = record { made = ((same_sym s.ssrc s.format.payload_type ssrc payload_type ∙ is, refl), tt); one_pop = omega arith; one_end = omega arith; one_report = omega arith; pair_first = tt; follow_each = (refl, refl); shows = refl };
     finishes_it = none_finished s.stage s.stage (waits limits ∷ []) refl refl;
+    descriptor = refl;
+    edged = (tt, refl);
   };
   tells = refl;
   known = λ known. known;
@@ -509,9 +519,12 @@ paired_goes c ssrc named true s is about silent nothing = record {
       one_end = omega arith;
       one_report = omega arith;
       pair_first = tt;
+      follow_each = (refl, refl);
       shows = sym nothing;
     };
     finishes_it = none_finished s.stage s.stage (pairs (paired_when true named s).receiver.stream.retransmission ∷ []) refl refl;
+    descriptor = refl;
+    edged = (tt, refl);
   };
   tells = subst (λ (es : List Event). AreOfOne s.announced es s.announced) (sym silent) refl;
   known = λ known. known;
@@ -538,8 +551,10 @@ one_reported now ssrc payload_type block s is = record {
     ranges = refl;
     part = reports ∷ [];
     alone = ((reported_by s).receiver, refl, refl);
-    is_part = record { made = (same_sym s.ssrc s.format.payload_type ssrc payload_type ∙ is, tt); one_pop = omega arith; one_end = omega arith; one_report = omega arith; pair_first = tt; shows = refl };
+    is_part = record { made = (same_sym s.ssrc s.format.payload_type ssrc payload_type ∙ is, tt); one_pop = omega arith; one_end = omega arith; one_report = omega arith; pair_first = tt; follow_each = (refl, refl); shows = refl };
     finishes_it = none_finished s.stage s.stage (reports ∷ []) refl refl;
+    descriptor = refl;
+    edged = (tt, refl);
   };
   tells = refl;
   known = λ known. known;
@@ -574,8 +589,10 @@ asked_goes ssrc asked false s = record {
     ranges = ap (λ (range : Option WaitRange). record { by_trip = range; by_age = age_range s.late }) (asked_range s.feedback);
     part = [];
     alone = refl;
-    is_part = record { made = tt; one_pop = omega arith; one_end = omega arith; one_report = omega arith; pair_first = tt; shows = refl };
+    is_part = record { made = tt; one_pop = omega arith; one_end = omega arith; one_report = omega arith; pair_first = tt; follow_each = refl; shows = refl };
     finishes_it = none_finished s.stage s.stage [] refl refl;
+    descriptor = refl;
+    edged = refl;
   };
   tells = refl;
   known = λ known. known;

@@ -20,7 +20,7 @@ use Rattle.codec_payload_session_requests.specs.Late.{limit_by}
 use Rattle.codec_payload_session.specs.Keyframes.{asked_among, asked_with}
 use Rattle.codec_payload_session.specs.Accepting.{Accepts, noted_in, time_for}
 use Rattle.codec_payload_session_stream.specs.Arrivals.{Arrives, arrival_of}
-use Rattle.codec_payload_session.specs.Arrivals.{BeginsIf, BeginsOrFeeds, BeginsWith, Feeds, FeedsIf, Port, TakesInAs, TakesMedia, exchanged_by, goodbye_at, has_place, leaving, left_where, without, has_ssrc}
+use Rattle.codec_payload_session.specs.Arrivals.{BeginsIf, BeginsOrFeeds, BeginsWith, Feeds, FeedsIf, Port, TakesInAs, TakesMedia, exchanged_by, goodbye_at, has_place, leaving, left_where, without, has_ssrc, begun_in}
 use Rattle.codec_payload_session.specs.Associations.{AssociatesBy, pair_at}
 use Rattle.codec_payload_session_stream.specs.Changes.{continued, continues, is_left_behind, is_playing, plays, takes_turns}
 use Rattle.codec_payload_session.specs.Pairs.{Pairs}
@@ -34,7 +34,7 @@ use Rattle.codec_payload_session_formats.specs.Names.{names_after}
 use Rattle.codec_payload_session_requests.specs.Requests.{heard_by, number_at, wait_by}
 use Rattle.codec_payload_session_formats.specs.Sorting.{Sorted, sorted_at}
 use Rattle.codec_payload_session_formats.specs.Sorting as sorted
-use Rattle.codec_payload_session_stream.specs.Streams.{Takes, accepted_after, heard_unless, is_accepted, is_no_memory, is_of, late_followed, late_noted, payload_size, received, stage_after, waiting_for, waiting_if, waiting_when, asked_for, asked_unless, is_ending}
+use Rattle.codec_payload_session_stream.specs.Streams.{Takes, accepted_after, heard_unless, is_accepted, is_no_memory, is_of, late_followed, late_noted, payload_size, received, stage_after, waiting_for, waiting_if, waiting_when, asked_for, asked_unless, is_ending, with_edges}
 use Rattle.codec_payload_session_stream.specs.Telephone.{event_of as telephone_event}
 use Rattle.codec_payload_session_stream.specs.Turns.{AreQuiet, event_of}
 use Rattle.codec_payload_session.specs.Turns.{TakesTurn, kept_after}
@@ -61,6 +61,7 @@ use Rattle.codec_payload_session_runs.proofs.ReachedLemmas.{AllAloneIn, AloneIn,
 use Rattle.codec_payload_session_runs.proofs.StreamLemmas.{FinishedBy, IsOwn, Kind, call_of, given_is, same_is, steps_stepped}
 use Rattle.codec_payload_session_runs.specs.Endings.{BeganWith, EachFinishHasCause, EndsHaveCauses, FinishHasCause, FinishesHaveCauses, HasCause, IsCause, last_given, names_other, or_before, time_given, time_named}
 use Rattle.codec_payload_session_runs.specs.Lives.{IsAbsent, StartsWithDatagram, ending_poll, is_same, many_finishes, one_event}
+use Rattle.codec_payload_stream_edges.specs.declared.followed.Followed.{Followed}
 use Rattle.codec_payload_session_runs.specs.SessionRuns.{AddsPair, Call, Does, Runs}
 use Rattle.codec_payload_session_runs.specs.declared.run.SessionStep.{SessionStep}
 use Rattle.codec_payload_session_runs.specs.declared.run.SessionStep.TheVariants as calls
@@ -96,6 +97,10 @@ both_same b accepted now bytes r s =
       stage = two.stage ∙ one.stage;
       accepted = two.accepted ∙ one.accepted;
     }
+
+-- the edges of the pictures change nothing of this
+pub edged_same : (r : Receiver) (followed : Option Followed) (s t : StreamState) → Same (with_edges r followed s) t → Same s t
+edged_same r followed s t same = record { ssrc_is = same.ssrc_is; format = same.format; last = same.last; stage = same.stage; accepted = same.accepted }
 
 by_probation : (b : Bool) (why : Ending) → ending_of (cond b stages.Playing stages.Probation) ≡ Some why → None ≡ Some why
 by_probation true why is = is
@@ -146,9 +151,11 @@ by_memory false now micros datagram probation accepted size x z told answer is s
 fed : (now : Ticks) (micros : Option ℕ) (datagram : Vec ℕ) (probation : ℕ) (x : StreamState) (told : Result Outcome ReceiveError) (y : StreamState) (answer : Result Arrival AllocError)
     → Takes now probation datagram.items x told y → Arrives (is_no_memory told) (arrival_of x.ssrc x.format.payload_type told) answer → Fed now micros datagram answer x y
 fed now micros datagram probation x told y answer got arrives =
-    subst (λ (z : StreamState). Fed now micros datagram answer x z) (sym got.2)
-    (by_memory (is_no_memory told) now micros datagram probation (is_accepted told) (payload_size (rtp_at datagram.items)) x (late_followed (is_ok told) now.0 datagram.items (received now.0 datagram.items (is_accepted told) got.0 x)) told answer arrives
-    (both_same (is_ok told) (is_accepted told) now.0 datagram.items got.0 x))
+    let edged : StreamState = with_edges got.0 got.1 x in
+    let after : StreamState = late_followed (is_ok told) now.0 datagram.items (received now.0 datagram.items (is_accepted told) got.0 edged) in
+    subst (λ (z : StreamState). Fed now micros datagram answer x z) (sym got.3)
+    (by_memory (is_no_memory told) now micros datagram probation (is_accepted told) (payload_size (rtp_at datagram.items)) x after told answer arrives
+    (edged_same got.0 got.1 x after (both_same (is_ok told) (is_accepted told) now.0 datagram.items got.0 edged)))
 
 -- ---- calls that give no stream a datagram
 
@@ -217,7 +224,7 @@ module _ (g : SessionSettings) (cs : List Call) (now : Ticks) (micros : Option �
       → BeginsWith settings ssrc f now datagram.items p answer q → After answer q.streams
   begins settings ssrc f p answer q lacks none js got =
       let x : StreamState = got.stream in
-      let told : StreamState = with_round_trip p.exchange.round_trip x in
+      let told : StreamState = begun_in ssrc p x in
       let names : answer ≡ Ok (arrival_of x.ssrc x.format.payload_type got.told) =
       got.answers ∙ ap₂ (λ (s : ℕ) (h : Format). Ok (arrival_of s h.payload_type got.told)) (sym got.begins.ssrc_is) (sym got.begins.format) in
       let arrives : Arrives (is_no_memory got.told) (arrival_of x.ssrc x.format.payload_type got.told) answer =

@@ -6,7 +6,10 @@ use Rattle.std.specs.declared.alloc.AllocError.{AllocError}
 use Rattle.codec_payload_base.specs.declared.wire.Ticks.{Ticks}
 use Rattle.codec_payload_feedback_wait.specs.Waits.{Wait}
 use Rattle.codec_payload_session.specs.Keyframes.{answer_among}
+use Rattle.codec_payload_session_requests.specs.Named.{rules_for}
 use Rattle.codec_payload_session_requests.specs.Requests.{Asking}
+use Rattle.codec_payload_stream_edges.specs.declared.followed.Followed.{Followed}
+use Rattle.codec_payload_stream_edges.specs.declared.rules.EdgeRules.{EdgeRules}
 use Rattle.codec_payload_session.specs.Arrivals.{Port, has_ssrc}
 use Rattle.codec_payload_session.specs.Accepting.{Accepts, noted_in, time_for}
 use Rattle.codec_payload_session.specs.Associations.{AssociatesBy, pair_at}
@@ -16,7 +19,7 @@ use Rattle.codec_payload_session.specs.Polls.{GoesOn, PollsAfter, SendsAfter, Se
 use Rattle.codec_payload_session_stream.specs.Events.{report_event, transport_event}
 use Rattle.codec_payload_session.specs.Ports.{Receives, Session, everyone, new_session}
 use Rattle.codec_payload_session.specs.Reporting.{ReportsBy, ReportsEach, Reports, all_reported, is_new_round, is_report_due, most_blocks, ReportsIf as ReportsWhen}
-use Rattle.codec_payload_session_stream.specs.Streams.{Begins, is_of}
+use Rattle.codec_payload_session_stream.specs.Streams.{Begins, is_of, Edges, edge_rules_of}
 use Rattle.codec_payload_session_stream.specs.Turns.{AreQuiet}
 use Rattle.codec_payload_session.specs.Turns.{TakesTurn}
 use Rattle.codec_payload_session_formats.specs.declared.formats.FeedbackSettings.{FeedbackSettings}
@@ -30,7 +33,7 @@ use Rattle.codec_payload_session_stream.specs.declared.stream.Ending.{Ending}
 use Rattle.codec_payload_receiver.specs.Sessions.{Session as Receiver}
 use Rattle.codec_payload_session_stream.specs.declared.stream.Stage.{Stage}
 use Rattle.codec_payload_session_stream.specs.declared.stream.StreamState.{StreamState}
-use Rattle.codec_payload_session_runs.proofs.AloneLemmas.{events_more, finishes_append, one_append, order_append, projects_more, projects_shown, runs_append}
+use Rattle.codec_payload_session_runs.proofs.AloneLemmas.{events_more, finishes_append, one_append, order_append, projects_more, projects_shown, runs_append, edges_append}
 use Rattle.codec_payload_session_runs.proofs.AssociationLemmas.{IsFound, added_pair, failed_paired, found_pair, paired_evolves, removed_pair}
 use Rattle.codec_payload_session_runs.proofs.CallLemmas.{end_evolves, failed_evolves, finish_evolves, pairs_evolve, quiet_evolves, receive_evolves, report_evolves, reported_evolves, tells_evolve, waits_evolve, keyframe_evolves}
 use Rattle.codec_payload_session_runs.proofs.FateLemmas.{AreApart, AreFates, AreFresh, AreKnown, BeginsNow, Evolves, IsFate, apart_fates, apart_more, absent_fates, evolves_same, known_fates, known_more, of_is, order_evolves, present, same_sym}
@@ -38,7 +41,7 @@ use Rattle.codec_payload_session_runs.proofs.RunLemmas.{runs_more}
 use Rattle.codec_payload_feedback_xr.specs.Exchange.{is_lost, sent}
 use Rattle.codec_payload_session_runs.proofs.TripLemmas.{told_if, told_streams}
 use Rattle.codec_payload_session_runs.proofs.StreamLemmas.{FinishedBy, HasPart, own_waits, same_is}
-use Rattle.codec_payload_session_runs.specs.Lives.{AreInOrder, AreMadeBy, AreOfOne, EachEndedAlone, EachIsAlone, EndedAlone, FollowedWaits, IsAbsent, IsAlone, IsPart, Projects, ReceiverCall, StartsWithDatagram, TellsInOrder, ending_poll, events_in, events_of, is_announced, is_same, many_finishes, one_event, waits_for, waits_of}
+use Rattle.codec_payload_session_runs.specs.Lives.{AreInOrder, AreMadeBy, AreOfOne, EachEndedAlone, EachIsAlone, EndedAlone, FollowedWaits, IsAbsent, IsAlone, IsPart, Projects, ReceiverCall, StartsWithDatagram, TellsInOrder, ending_poll, events_in, events_of, is_announced, is_same, many_finishes, one_event, waits_for, waits_of, EdgesRun}
 use Rattle.codec_payload_session_runs.specs.SessionRuns.{AddsPair, Call, Does, Runs}
 use Rattle.codec_payload_session_runs.specs.declared.run.SessionStep.{SessionStep}
 use Rattle.codec_payload_session_runs.specs.declared.run.SessionStep.TheVariants as calls
@@ -296,14 +299,16 @@ pub starts_more : (ssrc payload_type : ℕ) (cs ds : List Call) → StartsWithDa
 starts_more ssrc payload_type [] ds starts = absurd starts
 starts_more ssrc payload_type (c ∷ cs) ds starts = starts
 
--- a stream is alone, by these calls of its receiver
-abbrev IsAloneAs : SessionSettings → List Call → ℕ → Format → Bool → Receiver → List ReceiverCall → Type 0
-IsAloneAs settings cs ssrc f announced r own = (a : IsAlone settings cs ssrc f announced r) × (a.own ≡ own)
+-- a stream is alone, by these calls of its receiver, and with these edges
+abbrev IsAloneAs : SessionSettings → List Call → ℕ → Format → Bool → Receiver → List ReceiverCall → Option Followed → Type 0
+IsAloneAs settings cs ssrc f announced r own edges = (a : IsAlone settings cs ssrc f announced r) × (a.own ≡ own) × (a.edges ≡ edges)
 
--- a stream is alone, and its receiver was finished at most once, once the stream is drained
+-- a stream is alone, with its own edges, and its receiver was finished at most once, once the stream is drained
 pub record AloneIn (settings : SessionSettings) (cs : List Call) (x : StreamState) : Type 0 where
   pub alone : IsAlone settings cs x.ssrc x.format x.announced x.receiver
   pub finished : FinishedBy x.stage (many_finishes alone.own)
+  pub edges_are : alone.edges ≡ x.edges.followed
+  pub descriptor : x.edges.descriptor ≡ settings.dependency_descriptor
 
 abbrev pub AllAloneIn : SessionSettings → List Call → List StreamState → Type 0
 AllAloneIn settings cs [] = Unit {0}
@@ -320,7 +325,10 @@ alone_more settings cs c x y in_x ranged has tells =
     let w : FollowedWaits = waits_for settings x.ssrc x.format in
     let is_part : IsPart x.ssrc x.format w c has.part = subst (λ (own : FollowedWaits). IsPart x.ssrc x.format own c has.part) ranged has.is_part in
     let projects : Projects x.ssrc x.format w (got.during ++ c ∷ []) (got.own ++ has.part) = projects_more x.ssrc x.format w got.during c got.own has.part got.projects is_part in
-    let more : IsAloneAs settings (cs ++ c ∷ []) x.ssrc x.format y.announced y.receiver (got.own ++ has.part) = (
+    let k : EdgeRules = rules_for x.format settings.dependency_descriptor in
+    let edged : EdgesRun k got.edges has.part y.edges.followed =
+    subst₂ (λ (d : Option ℕ) (e : Option Followed). EdgesRun (rules_for x.format d) e has.part y.edges.followed) in_x.descriptor (sym in_x.edges_are) has.edged in
+    let more : IsAloneAs settings (cs ++ c ∷ []) x.ssrc x.format y.announced y.receiver (got.own ++ has.part) y.edges.followed = (
       record {
         before = got.before;
         during = got.during ++ c ∷ [];
@@ -334,18 +342,23 @@ alone_more settings cs c x y in_x ranged has tells =
         begins = got.begins;
         own = got.own ++ has.part;
         alone = runs_append got.own has.part got.fresh.receiver x.receiver y.receiver got.alone has.alone;
+        edges = y.edges.followed;
+        edged = edges_append k None got.own has.part got.edges y.edges.followed got.edged edged;
         projects = projects;
         shows = projects_shown x.ssrc x.format w (got.during ++ c ∷ []) (got.own ++ has.part) projects;
         tells = subst (λ (es : List Event). AreOfOne false es y.announced) (sym (events_more x.ssrc x.format.payload_type got.during c))
             (one_append (events_of x.ssrc x.format.payload_type got.during) (events_in x.ssrc x.format.payload_type c.answer) false x.announced y.announced got.tells tells);
       },
       refl,
+      refl,
     ) in
-    let moved : IsAloneAs settings (cs ++ c ∷ []) y.ssrc y.format y.announced y.receiver (got.own ++ has.part) =
-    subst₂ (λ (s : ℕ) (f : Format). IsAloneAs settings (cs ++ c ∷ []) s f y.announced y.receiver (got.own ++ has.part)) (sym has.ssrc_is) (sym has.format) more in
+    let moved : IsAloneAs settings (cs ++ c ∷ []) y.ssrc y.format y.announced y.receiver (got.own ++ has.part) y.edges.followed =
+    subst₂ (λ (s : ℕ) (f : Format). IsAloneAs settings (cs ++ c ∷ []) s f y.announced y.receiver (got.own ++ has.part) y.edges.followed) (sym has.ssrc_is) (sym has.format) more in
     record {
       alone = moved.0;
       finished = subst (λ (n : ℕ). FinishedBy y.stage n) (sym (finishes_append got.own has.part) ∙ ap many_finishes (sym moved.1)) (has.finishes_it (many_finishes got.own) in_x.finished);
+      edges_are = moved.2;
+      descriptor = has.descriptor ∙ in_x.descriptor;
     }
 
 nothing_more : (n : ℕ) → 0 + n ≡ n
@@ -362,6 +375,11 @@ alone_fresh settings cs c reached y run others got =
     subst (λ (own : FollowedWaits). IsPart y.ssrc y.format own c has.part) ranged (subst₂ (λ (s : ℕ) (f : Format). IsPart s f (own_waits x) c has.part) (sym has.ssrc_is) (sym has.format) has.is_part) in
     let projects : Projects y.ssrc y.format w (c ∷ []) has.part = (has.part, [], sym (append-nil has.part), is_part, refl) in
     let unannounced : x.announced ≡ false = got.begins.announced in
+    let descriptor : x.edges.descriptor ≡ settings.dependency_descriptor =
+    ap (λ (e : Edges). e.descriptor) got.begins.edges ∙ ap (λ (g : SessionSettings). g.dependency_descriptor) others in
+    let edged : EdgesRun (rules_for y.format settings.dependency_descriptor) None has.part y.edges.followed =
+    subst₂ (λ (d : Option ℕ) (f : Format). EdgesRun (rules_for f d) None has.part y.edges.followed) descriptor (sym has.format)
+    (subst (λ (e : Option Followed). EdgesRun (edge_rules_of x) e has.part y.edges.followed) (ap (λ (e : Edges). e.followed) got.begins.edges) has.edged) in
     let first : AreOfOne x.announced (events_in y.ssrc y.format.payload_type c.answer) y.announced =
     subst₂ (λ (s : ℕ) (f : Format). AreOfOne x.announced (events_in s f.payload_type c.answer) y.announced) (sym has.ssrc_is) (sym has.format) got.goes.tells in
     record {
@@ -378,11 +396,15 @@ alone_fresh settings cs c reached y run others got =
         begins = got.begins;
         own = has.part;
         alone = has.alone;
+        edges = y.edges.followed;
+        edged = edged;
         projects = projects;
         shows = projects_shown y.ssrc y.format w (c ∷ []) has.part projects;
         tells = subst₂ (λ (b : Bool) (es : List Event). AreOfOne b es y.announced) unannounced (sym (append-nil (events_in y.ssrc y.format.payload_type c.answer))) first;
       };
       finished = subst (λ (n : ℕ). FinishedBy y.stage n) (nothing_more (many_finishes has.part)) (has.finishes_it 0 (subst (λ (stage : Stage). FinishedBy stage 0) (sym got.begins.stage) refl));
+      edges_are = refl;
+      descriptor = has.descriptor ∙ descriptor;
     }
 
 alone_fates : (settings : SessionSettings) (cs : List Call) (c : Call) (ss : List StreamState) (fs : List (Option StreamState)) → AreFates c ss fs → AreRanged settings ss → AllAloneIn settings cs ss
@@ -463,11 +485,15 @@ reached settings cs t run = reached_later settings cs [] (new_session settings) 
 
 -- ---- streams that ended
 
+-- a stream is alone with these edges
+abbrev IsAloneWith : SessionSettings → List Call → ℕ → Format → Bool → Receiver → Option Followed → Type 0
+IsAloneWith settings cs ssrc f announced r edges = (a : IsAlone settings cs ssrc f announced r) × (a.edges ≡ edges)
+
 ended_same : (ssrc payload_type : ℕ) (x : StreamState) → is_of ssrc payload_type x ≡ true → is_same x.ssrc x.format.payload_type ssrc payload_type ≡ true
 ended_same ssrc payload_type x is = same_sym x.ssrc x.format.payload_type ssrc payload_type ∙ is
 
 ended_fate : (settings : SessionSettings) (before : List Call) (now : Ticks) (ssrc payload_type : ℕ) (why : Ending) (x : StreamState) (f : Option StreamState) → IsFate (ending_poll now ssrc payload_type why) x f
-    → is_of ssrc payload_type x ≡ true → IsRanged settings x → IsAlone settings before x.ssrc x.format x.announced x.receiver → EndedAlone settings before now ssrc payload_type why
+    → is_of ssrc payload_type x ≡ true → IsRanged settings x → AloneIn settings before x → EndedAlone settings before now ssrc payload_type why
 ended_fate settings before now ssrc payload_type why x (Some y) fate is ranged alone =
     absurd (subst (λ (b : Bool). AreOfOne x.announced (one_event b (events.Ended ssrc payload_type why)) y.announced) (ended_same ssrc payload_type x is) fate.tells)
 ended_fate settings before now ssrc payload_type why x None (inl replaced) is ranged alone =
@@ -475,11 +501,13 @@ ended_fate settings before now ssrc payload_type why x None (inl replaced) is ra
     subst (λ (b : Bool). one_event b (events.Ended ssrc payload_type why) ≡ []) (ended_same ssrc payload_type x is) replaced.tells in absurd (cc)
 ended_fate settings before now ssrc payload_type why x None (inr ends) is ranged alone =
     let ids = of_is ssrc payload_type x is in
+    let was : IsAloneWith settings before ssrc x.format true x.receiver x.edges.followed =
+    subst₂ (λ (s : ℕ) (b : Bool). IsAloneWith settings before s x.format b x.receiver x.edges.followed) ids.0 ends.announced (alone.alone, alone.edges_are) in
     record {
       format = x.format;
       has_type = ids.1;
       receiver = x.receiver;
-      alone = subst₂ (λ (s : ℕ) (b : Bool). IsAlone settings before s x.format b x.receiver) ids.0 ends.announced alone;
+      alone = was.0;
       last = ends.after.receiver;
       part = ends.has.part;
       run = ends.has.alone;
@@ -489,16 +517,20 @@ ended_fate settings before now ssrc payload_type why x None (inr ends) is ranged
       one_end = ends.has.is_part.one_end;
       one_report = ends.has.is_part.one_report;
       no_unit = ends.has.is_part.shows;
+      follow_each = ends.has.is_part.follow_each;
+      edges = ends.after.edges.followed;
+      edged =
+          subst₂ (λ (d : Option ℕ) (e : Option Followed). EdgesRun (rules_for x.format d) e ends.has.part ends.after.edges.followed) alone.descriptor (sym was.1) ends.has.edged;
     }
 
 ended_test : (b : Bool) (settings : SessionSettings) (before : List Call) (now : Ticks) (ssrc payload_type : ℕ) (why : Ending) (x : StreamState) (f : Option StreamState) → is_of ssrc payload_type x ≡ b
-    → IsFate (ending_poll now ssrc payload_type why) x f → IsRanged settings x → IsAlone settings before x.ssrc x.format x.announced x.receiver
+    → IsFate (ending_poll now ssrc payload_type why) x f → IsRanged settings x → AloneIn settings before x
     → (is_of ssrc payload_type x ≡ false → EndedAlone settings before now ssrc payload_type why) → EndedAlone settings before now ssrc payload_type why
 ended_test true settings before now ssrc payload_type why x f is fate ranged alone later = ended_fate settings before now ssrc payload_type why x f fate is ranged alone
 ended_test false settings before now ssrc payload_type why x f is fate ranged alone later = later is
 
 ended_among : (settings : SessionSettings) (before : List Call) (now : Ticks) (ssrc payload_type : ℕ) (why : Ending) (ss : List StreamState) (fs : List (Option StreamState))
-    → AreFates (ending_poll now ssrc payload_type why) ss fs → AreRanged settings ss → EachIsAlone settings before ss
+    → AreFates (ending_poll now ssrc payload_type why) ss fs → AreRanged settings ss → AllAloneIn settings before ss
     → (IsAbsent ssrc payload_type ss → events_in ssrc payload_type (ending_poll now ssrc payload_type why).answer ≡ []) → EndedAlone settings before now ssrc payload_type why
 ended_among settings before now ssrc payload_type why [] [] are ranged alone silent =
     let none : events.Ended ssrc payload_type why ∷ [] ≡ [] =
@@ -522,7 +554,7 @@ ended_in settings before after now ssrc payload_type why t run =
     let parts = runs_split before (c ∷ after) (new_session settings) t run in
     let got : Reached settings before parts.0 = reached settings before parts.0 parts.1 in
     let m : Moves c parts.0 parts.2.0 = moves c.step c.answer parts.0 parts.2.0 got.apart got.known parts.2.1 in
-    ended_among settings before now ssrc payload_type why parts.0.port.streams m.evolves.fates m.evolves.are_fates got.ranged got.alone (m.evolves.silent ssrc payload_type)
+    ended_among settings before now ssrc payload_type why parts.0.port.streams m.evolves.fates m.evolves.are_fates got.ranged got.ones (m.evolves.silent ssrc payload_type)
 
 pub each_ended : (settings : SessionSettings) (cs : List Call) (t : Session) → Runs cs (new_session settings) t → EachEndedAlone settings cs
 each_ended settings cs t run = λ before after now ssrc payload_type why whole.

@@ -22,7 +22,7 @@ use Rattle.codec_payload_session_formats.specs.Names.{names_after}
 use Rattle.codec_payload_session_requests.specs.Requests.{Asking, answered_if, heard_by, is_heard, number_at, wait_by}
 use Rattle.codec_payload_session_stream.specs.Trips.{with_round_trip}
 use Rattle.codec_payload_session_requests.specs.declared.requests.WaitRange.{WaitRange}
-use Rattle.codec_payload_session_stream.specs.Streams.{Drains, Follows, Plays, RequestsBy, RestsBy, Steps, StepsBy, Takes, accepted_after, end_by, end_of, heard_unless, is_accepted, is_keyframe, is_no_memory, is_probation, late_followed, late_noted, left_when, payload_size, received, stage_after, stage_left, step_of, step_with, waiting_for}
+use Rattle.codec_payload_session_stream.specs.Streams.{Drains, Follows, Plays, RequestsBy, RestsBy, Steps, StepsBy, Takes, accepted_after, end_by, end_of, heard_unless, is_accepted, is_keyframe, is_no_memory, is_probation, late_followed, late_noted, left_when, payload_size, received, stage_after, stage_left, step_of, step_with, waiting_for, Edges, Hears, edge_rules_of, with_edges}
 use Rattle.codec_payload_session_stream.specs.Turns.{event_of}
 use Rattle.codec_payload_session.specs.Turns.{kept_after}
 use Rattle.codec_payload_session_formats.specs.declared.formats.Format.{Format}
@@ -34,10 +34,15 @@ use Rattle.codec_payload_session_stream.specs.declared.stream.Ending.{Ending}
 use Rattle.codec_payload_session_stream.specs.declared.stream.Stage.{Stage}
 use Rattle.codec_payload_session_stream.specs.declared.stream.Stage.TheVariants as stages
 use Rattle.codec_payload_session_stream.specs.declared.stream.StreamState.{StreamState}
-use Rattle.codec_payload_session_runs.proofs.AloneLemmas.{finishes_append, made_append, poll_of, pops_append, reports_append, runs_append, shown_append}
+use Rattle.codec_payload_session_runs.proofs.AloneLemmas.{finishes_append, made_append, poll_of, pops_append, reports_append, runs_append, shown_append, polled_each, polled_edges}
 use Rattle.codec_payload_session_runs.proofs.WaitRangeLemmas.{IsInRangeIf, age_in, answered_range, asks_range, heard_range, late_range, trip_in, trip_range_told}
-use Rattle.codec_payload_session_runs.specs.Lives.{AreMadeBy, AreOfOne, FollowedWaits, HasNoPair, IsGiven, IsInRange, IsPairOf, IsPart, NamesSsrc, ReceiverCall, RunsAlone, age_range, events_by, events_in, finishes, follows, given_by, is_same, many_finishes, many_pops, many_reports, one_call, one_event, pairs, pops, receives, released_by, reports, shown, shown_in, trip_range, waits, waits_of, with_shown}
+use Rattle.codec_payload_session_runs.specs.Lives.{AreMadeBy, AreOfOne, FollowedWaits, HasNoPair, IsGiven, IsInRange, IsPairOf, IsPart, NamesSsrc, ReceiverCall, RunsAlone, age_range, events_by, events_in, finishes, follows, given_by, is_same, many_finishes, many_pops, many_reports, one_call, one_event, pairs, pops, receives, released_by, reports, shown, shown_in, trip_range, waits, waits_of, with_shown, Answered, EdgesCall, EdgesRun, FollowEach, followed_by, notes, to_follow, answered_unless}
 use Rattle.codec_payload_session_runs.specs.SessionRuns.{Call}
+use Rattle.codec_payload_session_requests.specs.Named.{FollowsEdges, rules_for}
+use Rattle.codec_payload_stream_edges.specs.Brought.{can_say}
+use Rattle.codec_payload_stream_edges.specs.Following.{FollowsIf, Follows as FollowsBytes, has_come, is_stored}
+use Rattle.codec_payload_stream_edges.specs.declared.followed.Followed.{Followed as KnownEdges}
+use Rattle.codec_payload_stream_edges.specs.declared.rules.EdgeRules.{EdgeRules}
 use Rattle.codec_payload_session_runs.specs.declared.run.SessionStep.TheVariants as calls
 use Rattle.codec_payload_session_runs.specs.declared.run.StepAnswer.TheVariants as answers
 
@@ -83,6 +88,12 @@ pub record HasPart (c : Call) (x y : StreamState) : Type 0 where
   pub alone : RunsAlone part x.receiver y.receiver
   pub is_part : IsPart x.ssrc x.format (own_waits x) c part
   pub finishes_it : Finishes x.stage y.stage part
+  pub descriptor : y.edges.descriptor ≡ x.edges.descriptor
+  pub edged : EdgesRun (edge_rules_of x) x.edges.followed part y.edges.followed
+
+-- the edges of a stream that stay as they are
+pub edges_stay : (k : EdgeRules) (part : List ReceiverCall) (f : Option KnownEdges) (a b : Edges) → b ≡ a → EdgesRun k f part a.followed → EdgesRun k f part b.followed
+edges_stay k part f a b same run = subst (λ (e : Edges). EdgesRun k f part e.followed) (sym same) run
 
 -- and the stream stays
 pub record Goes (c : Call) (x y : StreamState) : Type 0 where
@@ -94,7 +105,7 @@ pub record Goes (c : Call) (x y : StreamState) : Type 0 where
 
 pub silent_goes : (c : Call) (x : StreamState) → shown_in x.ssrc x.format.payload_type c ≡ [] → events_in x.ssrc x.format.payload_type c.answer ≡ [] → Goes c x x
 silent_goes c x shows tells = record {
-  has = record { ssrc_is = refl; format = refl; ranges = refl; part = []; alone = refl; is_part = record { made = tt; one_pop = omega arith; one_end = omega arith; one_report = omega arith; pair_first = tt; shows = sym shows }; finishes_it = none_finished x.stage x.stage [] refl refl };
+  has = record { ssrc_is = refl; format = refl; ranges = refl; part = []; alone = refl; is_part = record { made = tt; one_pop = omega arith; one_end = omega arith; one_report = omega arith; pair_first = tt; follow_each = refl; shows = sym shows }; finishes_it = none_finished x.stage x.stage [] refl refl; descriptor = refl; edged = refl };
   tells = subst (λ (es : List Event). AreOfOne x.announced es x.announced) (sym tells) refl;
   known = λ known. known;
 }
@@ -105,6 +116,7 @@ pub record Keeps (x y : StreamState) : Type 0 where
   pub format : y.format ≡ x.format
   pub announced : y.announced ≡ x.announced
   pub receiver : y.receiver ≡ x.receiver
+  pub edges : y.edges ≡ x.edges
   pub ranges : own_waits y ≡ own_waits x
   pub stage : is_probation x.stage ≡ false → is_probation y.stage ≡ false
   pub finished : (n : ℕ) → FinishedBy x.stage n → FinishedBy y.stage n
@@ -119,6 +131,8 @@ keeps_after c x y z goes keeps = record {
     alone = subst (λ (r : Receiver). RunsAlone goes.has.part x.receiver r) (sym keeps.receiver) goes.has.alone;
     is_part = goes.has.is_part;
     finishes_it = λ n got. keeps.finished (n + many_finishes goes.has.part) (goes.has.finishes_it n got);
+    descriptor = ap (λ (e : Edges). e.descriptor) keeps.edges ∙ goes.has.descriptor;
+    edged = edges_stay (edge_rules_of x) goes.has.part x.edges.followed y.edges z.edges keeps.edges goes.has.edged;
   };
   tells = subst (λ (b : Bool). AreOfOne x.announced (events_in x.ssrc x.format.payload_type c.answer) b) (sym keeps.announced) goes.tells;
   known = λ known announced. keeps.stage (goes.known known (sym keeps.announced ∙ announced));
@@ -137,8 +151,8 @@ left_finished why at (stages.Leaving first before) n got = got
 left_finished why at (stages.Draining first) n got = got
 
 pub keeps_left : (b : Bool) (why : Ending) (at : ℕ) (s : StreamState) → Keeps s (left_when b why at s)
-keeps_left true why at s = record { ssrc_is = refl; format = refl; announced = refl; receiver = refl; ranges = refl; stage = λ is. stage_left_is why at s.stage; finished = left_finished why at s.stage }
-keeps_left false why at s = record { ssrc_is = refl; format = refl; announced = refl; receiver = refl; ranges = refl; stage = λ is. is; finished = λ n got. got }
+keeps_left true why at s = record { ssrc_is = refl; format = refl; announced = refl; receiver = refl; edges = refl; ranges = refl; stage = λ is. stage_left_is why at s.stage; finished = left_finished why at s.stage }
+keeps_left false why at s = record { ssrc_is = refl; format = refl; announced = refl; receiver = refl; edges = refl; ranges = refl; stage = λ is. is; finished = λ n got. got }
 
 -- ---- a datagram
 
@@ -158,6 +172,7 @@ AllFollow given w (waits limits ∷ cs) = ⊥
 AllFollow given w (follows wait ∷ cs) = (given ≡ true) × IsInRange w wait × AllFollow given w cs
 AllFollow given w (pairs retransmission ∷ cs) = ⊥
 AllFollow given w (reports ∷ cs) = ⊥
+AllFollow given w (notes e ∷ cs) = ⊥
 
 -- what such calls are not
 record IsFollowing (more : List ReceiverCall) : Type 0 where
@@ -178,6 +193,7 @@ following given w (follows wait ∷ cs) all =
     record { no_pop = rest.no_pop; no_end = rest.no_end; no_report = rest.no_report; no_pair = (refl, rest.no_pair); hidden = rest.hidden }
 following given w (pairs retransmission ∷ cs) all = absurd all
 following given w (reports ∷ cs) all = absurd all
+following given w (notes e ∷ cs) all = absurd all
 
 one_follows : (given : Bool) (w : FollowedWaits) (more : List ReceiverCall) (wait : ℕ) → given ≡ true → IsInRange w wait → AllFollow given w more → AllFollow given w (more ++ follows wait ∷ [])
 one_follows given w [] wait is within all = (is, within, tt)
@@ -188,6 +204,30 @@ one_follows given w (waits limits ∷ cs) wait is within all = absurd all
 one_follows given w (follows other ∷ cs) wait is within all = (all.0, all.1, one_follows given w cs wait is within all.2)
 one_follows given w (pairs retransmission ∷ cs) wait is within all = absurd all
 one_follows given w (reports ∷ cs) wait is within all = absurd all
+one_follows given w (notes e ∷ cs) wait is within all = absurd all
+
+-- such calls leave the edges as they are
+waits_each : (given : Bool) (w : FollowedWaits) (more : List ReceiverCall) → AllFollow given w more → FollowEach None more
+waits_each given w [] all = refl
+waits_each given w (receives now bytes answer ∷ cs) all = absurd all
+waits_each given w (pops now answer ∷ cs) all = absurd all
+waits_each given w (finishes ∷ cs) all = absurd all
+waits_each given w (waits limits ∷ cs) all = absurd all
+waits_each given w (follows wait ∷ cs) all = (refl, waits_each given w cs all.2)
+waits_each given w (pairs retransmission ∷ cs) all = absurd all
+waits_each given w (reports ∷ cs) all = absurd all
+waits_each given w (notes e ∷ cs) all = absurd all
+
+waits_edges : (given : Bool) (w : FollowedWaits) (k : EdgeRules) (f : Option KnownEdges) (more : List ReceiverCall) → AllFollow given w more → EdgesRun k f more f
+waits_edges given w k f [] all = refl
+waits_edges given w k f (receives now bytes answer ∷ cs) all = absurd all
+waits_edges given w k f (pops now answer ∷ cs) all = absurd all
+waits_edges given w k f (finishes ∷ cs) all = absurd all
+waits_edges given w k f (waits limits ∷ cs) all = absurd all
+waits_edges given w k f (follows wait ∷ cs) all = (tt, waits_edges given w k f cs all.2)
+waits_edges given w k f (pairs retransmission ∷ cs) all = absurd all
+waits_edges given w k f (reports ∷ cs) all = absurd all
+waits_edges given w k f (notes e ∷ cs) all = absurd all
 
 -- ---- what a datagram makes of a stream, after its receiver received it
 record Heard (given : Bool) (ssrc : ℕ) (f : Format) (w : FollowedWaits) (announced : Bool) (stage : Stage) (r : Receiver) (y : StreamState) : Type 0 where
@@ -304,12 +344,55 @@ accepted_given (Err e) is = absurd (cc)
 takes_heard : (now : Ticks) (datagram : Vec ℕ) (probation : ℕ) (x : StreamState) (told : Result Outcome ReceiveError) (y : StreamState) → (got : Takes now probation datagram.items x told y)
     → Heard (is_ok told) x.ssrc x.format (own_waits x) x.announced x.stage got.0 y
 takes_heard now datagram probation x told y got =
-    let r : StreamState = received now.0 datagram.items (is_accepted told) got.0 x in
-    subst (λ (z : StreamState). Heard (is_ok told) x.ssrc x.format (own_waits x) x.announced x.stage got.0 z) (sym got.2)
+    let edged : StreamState = with_edges got.0 got.1 x in
+    let r : StreamState = received now.0 datagram.items (is_accepted told) got.0 edged in
+    subst (λ (z : StreamState). Heard (is_ok told) x.ssrc x.format (own_waits x) x.announced x.stage got.0 z) (sym got.3)
     (unless_heard (is_no_memory told) (is_ok told) now probation (is_accepted told) (payload_size (rtp_at datagram.items)) x.ssrc x.format (own_waits x) x.announced x.stage got.0
     (late_followed (is_ok told) now.0 datagram.items r)
     (late_heard (is_ok told) (is_ok told) now datagram x.ssrc x.format (own_waits x) x.announced x.stage got.0 r (λ is. is)
-    (received_heard (is_ok told) (is_accepted told) now datagram got.0 x (accepted_given told))))
+    (received_heard (is_ok told) (is_accepted told) now datagram got.0 edged (accepted_given told))))
+
+-- ---- the edges after a datagram
+
+waiting_edges : (o : Option ℕ) (s : StreamState) → (waiting_for o s).edges ≡ s.edges
+waiting_edges None s = refl
+waiting_edges (Some wait) s = refl
+
+received_edges : (now : ℕ) (bytes : List ℕ) (b : Bool) (r : Receiver) (s : StreamState) → (received now bytes b r s).edges ≡ s.edges
+received_edges now bytes true r s = waiting_edges _ _
+received_edges now bytes false r s = refl
+
+late_edges : (b : Bool) (now : ℕ) (bytes : List ℕ) (s : StreamState) → (late_followed b now bytes s).edges ≡ s.edges
+late_edges true now bytes s = waiting_edges (limit_by (late_noted now bytes s).late) (late_noted now bytes s)
+late_edges false now bytes s = refl
+
+unless_edges : (b : Bool) (now probation : ℕ) (accepted : Bool) (size : ℕ) (s : StreamState) → (heard_unless b now probation accepted size s).edges ≡ s.edges
+unless_edges true now probation accepted size s = refl
+unless_edges false now probation accepted size s = refl
+
+takes_edges : (now : Ticks) (probation : ℕ) (bytes : List ℕ) (s : StreamState) (answer : Result Outcome ReceiveError) (t : StreamState) → (got : Takes now probation bytes s answer t)
+    → t.edges ≡ record s.edges { followed = got.1 }
+takes_edges now probation bytes s answer t got =
+    let edged : StreamState = with_edges got.0 got.1 s in
+    let r : StreamState = received now.0 bytes (is_accepted answer) got.0 edged in
+    ap (λ (x : StreamState). x.edges) got.3 ∙ unless_edges (is_no_memory answer) now.0 probation (is_accepted answer) (payload_size (rtp_at bytes)) (late_followed (is_ok answer) now.0 bytes r)
+    ∙ late_edges (is_ok answer) now.0 bytes r
+    ∙ received_edges now.0 bytes (is_accepted answer) got.0 edged
+
+-- without memory for the datagram the edges do not follow it
+lost_is : (told : Result Outcome ReceiveError) → is_no_memory told ≡ true → has_come told ≡ false
+lost_is (Ok outcome) is = absurd (cc)
+lost_is (Err e) is = refl
+
+with_false : (a b : Bool) → b ≡ false → (a && b) ≡ false
+with_false true b is = is
+with_false false b is = refl
+
+lost_edges : (k : EdgeRules) (bytes : List ℕ) (told : Result Outcome ReceiveError) (f : Option KnownEdges) (mid : Receiver) (g : Option KnownEdges) (r : Receiver) → is_no_memory told ≡ true
+    → FollowsEdges k bytes told f mid g r → (g ≡ f) × (r ≡ mid)
+lost_edges k bytes told f mid g r lost got =
+    let is = subst (λ (b : Bool). FollowsIf b k bytes (is_stored told) f mid got.told g r) (with_false (can_say k) (has_come told) (lost_is told lost)) got.follows in
+    (is.1, is.2)
 
 -- the ranges stay
 heard_waits : (w : FollowedWaits) (y : StreamState) → trip_range y.feedback ≡ w.by_trip → age_range y.late ≡ w.by_age → own_waits y ≡ w
@@ -353,6 +436,7 @@ more_made told_given ssrc f w now micros datagram answer (follows wait ∷ cs) g
     ((given all.0, all.1), more_made told_given ssrc f w now micros datagram answer cs given all.2)
 more_made told_given ssrc f w now micros datagram answer (pairs retransmission ∷ cs) given all = absurd all
 more_made told_given ssrc f w now micros datagram answer (reports ∷ cs) given all = absurd all
+more_made told_given ssrc f w now micros datagram answer (notes e ∷ cs) given all = absurd all
 
 heard_made : (now : Ticks) (micros : Option ℕ) (datagram : Vec ℕ) (ssrc : ℕ) (f : Format) (w : FollowedWaits) (told : Result Outcome ReceiveError) (answer : Result Arrival AllocError) (more : List ReceiverCall)
     → AllFollow (is_ok told) w more → Arrives (is_no_memory told) (arrival_of ssrc f.payload_type told) answer → AreMadeBy ssrc f w (call_of now micros datagram answer) more
@@ -361,28 +445,79 @@ heard_made now micros datagram ssrc f w told answer more all arrives =
     (λ is. given_there (is_no_memory told) (receives now datagram.items told) (given_by ssrc f.payload_type now datagram.items answer) (given_memory told is)
     (given_is (is_no_memory told) now datagram.items ssrc f.payload_type told answer arrives)) all
 
+-- what comes behind the receipt of a datagram: the edges follow it, and waits may change
+record Rest (now : Ticks) (datagram : Vec ℕ) (c : Call) (ssrc : ℕ) (f : Format) (w : FollowedWaits) (told : Result Outcome ReceiveError) (edges : Edges) (mid : Receiver) (y : StreamState) : Type 0 where
+  rest : List ReceiverCall
+  run : RunsAlone rest mid y.receiver
+  made : AreMadeBy ssrc f w c rest
+  is : IsFollowing rest
+  each : FollowEach (to_follow (receives now datagram.items told)) rest
+  edged : EdgesRun (rules_for f edges.descriptor) edges.followed rest y.edges.followed
+
+rest_of : (lost : Bool) (now : Ticks) (micros : Option ℕ) (datagram : Vec ℕ) (probation : ℕ) (x : StreamState) (told : Result Outcome ReceiveError) (y : StreamState) (answer : Result Arrival AllocError)
+    → is_no_memory told ≡ lost → (got : Takes now probation datagram.items x told y) → Arrives (is_no_memory told) (arrival_of x.ssrc x.format.payload_type told) answer
+    → Rest now datagram (call_of now micros datagram answer) x.ssrc x.format (own_waits x) told x.edges got.2.mid y
+rest_of true now micros datagram probation x told y answer lost got arrives =
+    let h : Heard (is_ok told) x.ssrc x.format (own_waits x) x.announced x.stage got.0 y = takes_heard now datagram probation x told y got in
+    let stays = lost_edges (edge_rules_of x) datagram.items told x.edges.followed got.2.mid got.1 got.0 lost got.2.follows in
+    let after : y.edges.followed ≡ x.edges.followed = ap (λ (e : Edges). e.followed) (takes_edges now probation datagram.items x told y got) ∙ stays.0 in
+    record {
+      rest = h.more;
+      run = subst (λ (r : Receiver). RunsAlone h.more r y.receiver) stays.1 h.run;
+      made = heard_made now micros datagram x.ssrc x.format (own_waits x) told answer h.more h.all arrives;
+      is = following (is_ok told) (own_waits x) h.more h.all;
+      each = subst (λ (b : Bool). FollowEach (answered_unless b datagram.items told) h.more) (sym lost) (waits_each (is_ok told) (own_waits x) h.more h.all);
+      edged = subst (λ (g : Option KnownEdges). EdgesRun (edge_rules_of x) x.edges.followed h.more g) (sym after)
+          (waits_edges (is_ok told) (own_waits x) (edge_rules_of x) x.edges.followed h.more h.all);
+    }
+rest_of false now micros datagram probation x told y answer found got arrives =
+    let h : Heard (is_ok told) x.ssrc x.format (own_waits x) x.announced x.stage got.0 y = takes_heard now datagram probation x told y got in
+    let f : IsFollowing h.more = following (is_ok told) (own_waits x) h.more h.all in
+    let e : EdgesCall = record { rules = edge_rules_of x; bytes = datagram.items; received = told; before = x.edges.followed; after = got.1 } in
+    let after : y.edges.followed ≡ got.1 = ap (λ (e : Edges). e.followed) (takes_edges now probation datagram.items x told y got) in
+    let given : with_shown (not (is_no_memory told)) (receives now datagram.items told) [] ≡ given_by x.ssrc x.format.payload_type now datagram.items answer =
+    given_is (is_no_memory told) now datagram.items x.ssrc x.format.payload_type told answer arrives in
+    record {
+      rest = notes e ∷ h.more;
+      run = (got.0, got.2.follows, h.run);
+      made = (
+        sym given ∙ ap (λ (b : Bool). with_shown (not b) (receives now datagram.items told) []) found,
+        heard_made now micros datagram x.ssrc x.format (own_waits x) told answer h.more h.all arrives,
+      );
+      is = record { no_pop = f.no_pop; no_end = f.no_end; no_report = f.no_report; no_pair = (refl, f.no_pair); hidden = f.hidden };
+      each = (ap (λ (b : Bool). answered_unless b datagram.items told) found, waits_each (is_ok told) (own_waits x) h.more h.all);
+      edged = (
+        (refl, refl),
+        subst (λ (g : Option KnownEdges). EdgesRun (edge_rules_of x) got.1 h.more g) (sym after)
+            (waits_edges (is_ok told) (own_waits x) (edge_rules_of x) got.1 h.more h.all),
+      );
+    }
+
 pub fed_goes : (now : Ticks) (micros : Option ℕ) (datagram : Vec ℕ) (probation : ℕ) (x : StreamState) (told : Result Outcome ReceiveError) (y : StreamState) (answer : Result Arrival AllocError)
     → Takes now probation datagram.items x told y → Arrives (is_no_memory told) (arrival_of x.ssrc x.format.payload_type told) answer → Goes (call_of now micros datagram answer) x y
 fed_goes now micros datagram probation x told y answer got arrives =
     let h : Heard (is_ok told) x.ssrc x.format (own_waits x) x.announced x.stage got.0 y = takes_heard now datagram probation x told y got in
-    let f : IsFollowing h.more = following (is_ok told) (own_waits x) h.more h.all in
+    let r = rest_of (is_no_memory told) now micros datagram probation x told y answer refl got arrives in
     record {
       has = record {
         ssrc_is = h.ssrc_is;
         format = h.format;
         ranges = heard_waits (own_waits x) y h.trip_is h.age_is;
-        part = receives now datagram.items told ∷ h.more;
-        alone = (got.0, got.1, h.run);
+        part = receives now datagram.items told ∷ r.rest;
+        alone = (got.2.mid, got.2.receives, r.run);
         is_part = record {
-          made = ((refl, refl), heard_made now micros datagram x.ssrc x.format (own_waits x) told answer h.more h.all arrives);
-          one_pop = omega (arith, f.no_pop);
-          one_end = omega (arith, f.no_end);
-          one_report = omega (arith, f.no_report);
-          pair_first = f.no_pair;
-          shows = ap (λ (cs : List ReceiverCall). with_shown (not (is_no_memory told)) (receives now datagram.items told) cs) f.hidden
+          made = ((refl, refl), r.made);
+          one_pop = omega (arith, r.is.no_pop);
+          one_end = omega (arith, r.is.no_end);
+          one_report = omega (arith, r.is.no_report);
+          pair_first = r.is.no_pair;
+          follow_each = (refl, r.each);
+          shows = ap (λ (cs : List ReceiverCall). with_shown (not (is_no_memory told)) (receives now datagram.items told) cs) r.is.hidden
               ∙ given_is (is_no_memory told) now datagram.items x.ssrc x.format.payload_type told answer arrives;
         };
-        finishes_it = λ n was. finished_more y.stage n (many_finishes h.more) f.no_end (h.finished n was);
+        finishes_it = λ n was. finished_more y.stage n (many_finishes r.rest) r.is.no_end (h.finished n was);
+        descriptor = ap (λ (e : Edges). e.descriptor) (takes_edges now probation datagram.items x told y got);
+        edged = (tt, r.edged);
       };
       tells = h.announced_is;
       known = λ known is. h.stage_is (known (sym h.announced_is ∙ is));
@@ -397,24 +532,27 @@ paired_fed_goes now micros datagram probation named false x told y answer names 
 paired_fed_goes now micros datagram probation named true x told y answer names got arrives =
     let z : StreamState = paired named x in
     let h : Heard (is_ok told) x.ssrc x.format (own_waits x) x.announced x.stage got.0 y = takes_heard now datagram probation z told y got in
-    let f : IsFollowing h.more = following (is_ok told) (own_waits x) h.more h.all in
+    let r = rest_of (is_no_memory told) now micros datagram probation z told y answer refl got arrives in
     record {
       has = record {
         ssrc_is = h.ssrc_is;
         format = h.format;
         ranges = heard_waits (own_waits x) y h.trip_is h.age_is;
-        part = pairs z.receiver.stream.retransmission ∷ receives now datagram.items told ∷ h.more;
-        alone = (z.receiver, refl, (got.0, got.1, h.run));
+        part = pairs z.receiver.stream.retransmission ∷ receives now datagram.items told ∷ r.rest;
+        alone = (z.receiver, refl, (got.2.mid, got.2.receives, r.run));
         is_part = record {
-          made = (names refl, ((refl, refl), heard_made now micros datagram x.ssrc x.format (own_waits x) told answer h.more h.all arrives));
-          one_pop = omega (arith, f.no_pop);
-          one_end = omega (arith, f.no_end);
-          one_report = omega (arith, f.no_report);
-          pair_first = (refl, f.no_pair);
-          shows = ap (λ (cs : List ReceiverCall). with_shown (not (is_no_memory told)) (receives now datagram.items told) cs) f.hidden
+          made = (names refl, ((refl, refl), r.made));
+          one_pop = omega (arith, r.is.no_pop);
+          one_end = omega (arith, r.is.no_end);
+          one_report = omega (arith, r.is.no_report);
+          pair_first = (refl, r.is.no_pair);
+          follow_each = (refl, (refl, r.each));
+          shows = ap (λ (cs : List ReceiverCall). with_shown (not (is_no_memory told)) (receives now datagram.items told) cs) r.is.hidden
               ∙ given_is (is_no_memory told) now datagram.items x.ssrc x.format.payload_type told answer arrives;
         };
-        finishes_it = λ n was. finished_more y.stage n (many_finishes h.more) f.no_end (h.finished n was);
+        finishes_it = λ n was. finished_more y.stage n (many_finishes r.rest) r.is.no_end (h.finished n was);
+        descriptor = ap (λ (e : Edges). e.descriptor) (takes_edges now probation datagram.items z told y got);
+        edged = (tt, (tt, r.edged));
       };
       tells = h.announced_is;
       known = λ known is. h.stage_is (known (sym h.announced_is ∙ is));
@@ -449,6 +587,7 @@ pub record Stepped (now : Ticks) (x : StreamState) (event : Option Event) (kept 
   pub kind : Kind x.announced y.announced x.ssrc x.format.payload_type event kept y
   pub known : IsKnown x → IsKnown y
   pub finishes_it : Finishes x.stage y.stage part
+  pub edges : y.edges ≡ x.edges
 
 record Drained (now : Ticks) (x y : StreamState) : Type 0 where
   ssrc_is : y.ssrc ≡ x.ssrc
@@ -464,6 +603,7 @@ record Drained (now : Ticks) (x y : StreamState) : Type 0 where
   no_report : many_reports part ≡ 0
   hidden : shown part ≡ []
   finishes_it : Finishes x.stage y.stage part
+  edges : y.edges ≡ x.edges
 
 -- a stream that is drained does not end again
 ending_finished : (now idle last : ℕ) (stage : Stage) (why : Ending) (n : ℕ) → end_by now idle last stage ≡ Some why → FinishedBy stage n → n + 1 ≤ 1
@@ -488,6 +628,7 @@ drained now idle None x y is got = subst (λ (z : StreamState). Drained now x z)
       no_report = refl;
       hidden = refl;
       finishes_it = none_finished x.stage x.stage [] refl refl;
+      edges = refl;
     })
 drained now idle (Some why) x y is got = subst (λ (z : StreamState). Drained now x z) (sym got.2)
     (record {
@@ -504,6 +645,7 @@ drained now idle (Some why) x y is got = subst (λ (z : StreamState). Drained no
       no_report = refl;
       hidden = refl;
       finishes_it = λ n was. ending_finished now.0 idle x.last x.stage why n is was;
+      edges = refl;
     })
 
 -- what follows a pop of an announced stream
@@ -519,6 +661,7 @@ record Followed (now : Ticks) (popping : Option (Result (Popped Release) AllocEr
   announced_is : y.announced ≡ m.announced
   stage_is : y.stage ≡ m.stage
   receiver : y.receiver ≡ m.receiver
+  edges : y.edges ≡ m.edges
   tells : Told now y.ssrc y.format.payload_type popping event kept y
 
 abbrev stays_with : StreamState → List StreamState → List StreamState
@@ -588,7 +731,7 @@ answer_told now (Err e) y =
 
 same_followed : (now : Ticks) (popping : Option (Result (Popped Release) AllocError)) (m : StreamState) (event : Option Event) (kept : List StreamState → List StreamState)
     → Told now m.ssrc m.format.payload_type popping event kept m → Followed now popping m event kept m
-same_followed now popping m event kept tells = record { ssrc_is = refl; format = refl; ranges = refl; announced_is = refl; stage_is = refl; receiver = refl; tells = tells }
+same_followed now popping m event kept tells = record { ssrc_is = refl; format = refl; ranges = refl; announced_is = refl; stage_is = refl; receiver = refl; edges = refl; tells = tells }
 
 -- by the packet of the requests, if there is one
 asked_told : (told : Result (Option (Vec ℕ)) AllocError) (now : Ticks) (y : StreamState) → Told now y.ssrc y.format.payload_type None (event_of y (step_of told)) (λ (rest : List StreamState). kept_after (step_of told) y rest) y
@@ -610,6 +753,7 @@ requests_followed (Some a) now m step y is got =
       announced_is = refl;
       stage_is = refl;
       receiver = refl;
+      edges = refl;
       tells = asked_told got.told now (record m { feedback = Some got.asking });
     })
 
@@ -637,6 +781,7 @@ followed (Some told) now m step y got =
       announced_is = refl;
       stage_is = refl;
       receiver = refl;
+      edges = refl;
       tells = answer_told now told (record m { feedback = answered_if (is_keyframe told m.receiver) m.feedback });
     })
 
@@ -669,6 +814,7 @@ plays_stepped now idle x step y plays announced got =
       kind = subst₂ (λ (a b : Bool). Kind a b x.ssrc x.format.payload_type (event_of y step) (λ (rest : List StreamState). kept_after step y rest) y) (sym announced) (sym announced_after) tells.kind;
       known = λ known is. stage_after;
       finishes_it = λ n was. subst₂ (λ (stage : Stage) (m : ℕ). FinishedBy stage (n + m)) (sym f.stage_is) (sym finishes_part) (d.finishes_it n was);
+      edges = f.edges ∙ d.edges;
     }
 
 -- an event with the beginning of a stream
@@ -692,6 +838,7 @@ begun_stepped now x announced stage_is =
       kind = inl (subst (λ (b : Bool). AreOfOne x.announced (one_event b event) true) (sym same) (announced, refl), λ rest. refl);
       known = λ known is. stage_is;
       finishes_it = none_finished x.stage x.stage [] refl refl;
+      edges = refl;
     }
 
 still_stepped : (now : Ticks) (x : StreamState) → Stepped now x None (stays_with x) x
@@ -710,6 +857,7 @@ still_stepped now x = record {
   kind = inl (refl, λ rest. refl);
   known = λ known. known;
   finishes_it = none_finished x.stage x.stage [] refl refl;
+  edges = refl;
 }
 
 by_stepped : (b announced : Bool) (now : Ticks) (idle : ℕ) (x : StreamState) (step : _) (y : StreamState) → is_probation x.stage ≡ b → x.announced ≡ announced → StepsBy b announced now idle x step y

@@ -18,6 +18,7 @@ use Rattle.codec_payload_feedback_wait.specs.Waits.{Wait}
 use Rattle.codec_payload_feedback_wait.specs.declared.adaptive_wait.AdaptiveWaitSettings.{AdaptiveWaitSettings}
 use Rattle.codec_payload_session_formats.specs.Formats.{is_video, limits_for}
 use Rattle.codec_payload_session_requests.specs.Late.{late_for}
+use Rattle.codec_payload_session_requests.specs.Named.{FollowsEdges, rules_for}
 use Rattle.codec_payload_session_requests.specs.Requests.{Asking, feedback_by}
 use Rattle.codec_payload_session_requests.specs.declared.requests.WaitRange.{WaitRange}
 use Rattle.codec_payload_session.specs.Ports.{Session, new_session}
@@ -30,6 +31,8 @@ use Rattle.codec_payload_session_stream.specs.Units.{Event}
 use Rattle.codec_payload_session_stream.specs.declared.events.Event.TheVariants as events
 use Rattle.codec_payload_session_stream.specs.declared.stream.Ending.{Ending}
 use Rattle.codec_payload_session_stream.specs.declared.stream.StreamState.{StreamState}
+use Rattle.codec_payload_stream_edges.specs.declared.followed.Followed.{Followed}
+use Rattle.codec_payload_stream_edges.specs.declared.rules.EdgeRules.{EdgeRules}
 use Rattle.codec_payload_session_runs.specs.SessionRuns.{Call, Runs}
 use Rattle.codec_payload_session_runs.specs.declared.run.SessionStep.{SessionStep}
 use Rattle.codec_payload_session_runs.specs.declared.run.SessionStep.TheVariants as steps
@@ -38,8 +41,17 @@ use Rattle.codec_payload_session_runs.specs.declared.run.StepAnswer.TheVariants 
 
 -- ---- a receiver alone
 
+-- the edges of a stream's pictures follow a datagram (`StreamEdges::follow`): the rules, the datagram, what the receiver answered for it,
+-- and the edges before and after
+pub record EdgesCall : Type 0 where
+  pub rules : EdgeRules
+  pub bytes : List ℕ
+  pub received : Result Outcome ReceiveError
+  pub before : Option Followed
+  pub after : Option Followed
+
 -- a call of a receiver, with its answer: a datagram, a pop, the end of the stream, other wait limits, another `max_wait` alone, another
--- SSRC of retransmissions, a report
+-- SSRC of retransmissions, a report, numbers that carry no media by the edges of the stream
 pub data ReceiverCall : Type 0 where
   receives : Ticks → List ℕ → Result Outcome ReceiveError → ReceiverCall
   pops : Ticks → Option (Result (Popped Release) AllocError) → ReceiverCall
@@ -48,6 +60,7 @@ pub data ReceiverCall : Type 0 where
   follows : ℕ → ReceiverCall
   pairs : Option Retransmission → ReceiverCall
   reports : ReceiverCall
+  notes : EdgesCall → ReceiverCall
 
 abbrev pub DoesAlone : ReceiverCall → Receiver → Receiver → Type 0
 DoesAlone (receives now bytes answer) r q = ReceivesBytes now bytes r answer q
@@ -57,11 +70,75 @@ DoesAlone (waits limits) r q = q ≡ record r { packets = record r.packets { wai
 DoesAlone (follows wait) r q = q ≡ record r { packets = record r.packets { wait_limits = record r.packets.wait_limits { max_wait = Some wait } } }
 DoesAlone (pairs retransmission) r q = q ≡ record r { stream = record r.stream { retransmission = retransmission } }
 DoesAlone reports r q = q ≡ record r { reception = reported r.reception }
+DoesAlone (notes e) r q = FollowsEdges e.rules e.bytes e.received e.before r e.after q
 
 -- the calls of a receiver in order, and nothing else
 abbrev pub RunsAlone : List ReceiverCall → Receiver → Receiver → Type 0
 RunsAlone [] r q = q ≡ r
 RunsAlone (c ∷ cs) r q = (mid : Receiver) × DoesAlone c r mid × RunsAlone cs mid q
+
+-- ---- the edges of its pictures
+
+-- a call of the edges is by these rules, and goes on from these edges
+abbrev pub GoesOnFrom : EdgeRules → Option Followed → ReceiverCall → Type 0
+GoesOnFrom k f (receives now bytes answer) = Unit {0}
+GoesOnFrom k f (pops now answer) = Unit {0}
+GoesOnFrom k f finishes = Unit {0}
+GoesOnFrom k f (waits limits) = Unit {0}
+GoesOnFrom k f (follows wait) = Unit {0}
+GoesOnFrom k f (pairs retransmission) = Unit {0}
+GoesOnFrom k f reports = Unit {0}
+GoesOnFrom k f (notes e) = (e.rules ≡ k) × (e.before ≡ f)
+
+abbrev pub edges_after : Option Followed → ReceiverCall → Option Followed
+edges_after f (receives now bytes answer) = f
+edges_after f (pops now answer) = f
+edges_after f finishes = f
+edges_after f (waits limits) = f
+edges_after f (follows wait) = f
+edges_after f (pairs retransmission) = f
+edges_after f reports = f
+edges_after f (notes e) = e.after
+
+-- the edges of these calls follow one another by these rules, from the first edges on, and lead to the last ones
+abbrev pub EdgesRun : EdgeRules → Option Followed → List ReceiverCall → Option Followed → Type 0
+EdgesRun k f [] g = g ≡ f
+EdgesRun k f (c ∷ cs) g = GoesOnFrom k f c × EdgesRun k (edges_after f c) cs g
+
+-- a datagram, and what the receiver answered for it
+abbrev pub Answered : Type 0
+Answered = List ℕ × Result Outcome ReceiveError
+
+abbrev pub answered_unless : (lost : Bool) → List ℕ → Result Outcome ReceiveError → Option Answered
+answered_unless true bytes answer = None
+answered_unless false bytes answer = Some (bytes, answer)
+
+-- the datagram that the edges follow after this call: the call received it, and memory did not run out
+abbrev pub to_follow : ReceiverCall → Option Answered
+to_follow (receives now bytes answer) = answered_unless (is_no_memory answer) bytes answer
+to_follow (pops now answer) = None
+to_follow finishes = None
+to_follow (waits limits) = None
+to_follow (follows wait) = None
+to_follow (pairs retransmission) = None
+to_follow reports = None
+to_follow (notes e) = None
+
+-- the datagram that this call follows
+abbrev pub followed_by : ReceiverCall → Option Answered
+followed_by (receives now bytes answer) = None
+followed_by (pops now answer) = None
+followed_by finishes = None
+followed_by (waits limits) = None
+followed_by (follows wait) = None
+followed_by (pairs retransmission) = None
+followed_by reports = None
+followed_by (notes e) = Some (e.bytes, e.received)
+
+-- each datagram that was received is followed once, by the next call, and no other one is. `last` is the one that the call in front received
+abbrev pub FollowEach : (last : Option Answered) → List ReceiverCall → Type 0
+FollowEach last [] = last ≡ None
+FollowEach last (c ∷ cs) = (last ≡ followed_by c) × FollowEach (to_follow c) cs
 
 -- ---- what a call of the session is for the stream of an SSRC and payload type
 
@@ -156,6 +233,7 @@ is_shown (waits limits) = false
 is_shown (follows wait) = false
 is_shown (pairs retransmission) = false
 is_shown reports = false
+is_shown (notes e) = false
 
 abbrev pub with_shown : Bool → ReceiverCall → List ReceiverCall → List ReceiverCall
 with_shown true c cs = c ∷ cs
@@ -256,13 +334,15 @@ IsGiven (c ∷ cs) = Unit {0}
 
 -- What a call of the session, whose answer shows this of the stream with that SSRC and format, makes of the receiver of the stream. A
 -- datagram is received at its time. If the stream takes it, `max_wait` may follow the round trip, or how late missing packets arrive, within the ranges of the stream. If it
--- is a retransmission whose stream is found, the answer names that stream, and the streams of its SSRC get the SSRC of the datagram. A poll pops at its time, and may end the
+-- is a retransmission whose stream is found, the answer names that stream, and the streams of its SSRC get the SSRC of the datagram. The edges follow the datagram that the
+-- answer shows. A poll pops at its time, and may end the
 -- stream first. If its event is a report, the poll may report the stream afterwards. A call for the wait limits or a report is passed on to the
 -- stream that it names, and a pair to the streams of its SSRC
 abbrev pub IsMadeAs : ℕ → Format → FollowedWaits → SessionStep → StepAnswer → List ReceiverCall → ReceiverCall → Type 0
 IsMadeAs ssrc f w (steps.Receive now micros datagram) answer given (receives at bytes told) = (at ≡ now) × (bytes ≡ datagram.items)
 IsMadeAs ssrc f w (steps.Receive now micros datagram) answer given (follows wait) = IsGiven given × IsInRange w wait
 IsMadeAs ssrc f w (steps.Receive now micros datagram) answer given (pairs own) = NamesSsrc ssrc answer × IsPairOf f.retransmission datagram.items own
+IsMadeAs ssrc f w (steps.Receive now micros datagram) answer given (notes e) = given ≡ receives now e.bytes e.received ∷ []
 IsMadeAs ssrc f w (steps.Poll now) answer given (pops at told) = at ≡ now
 IsMadeAs ssrc f w (steps.Poll now) answer given finishes = Unit {0}
 IsMadeAs ssrc f w (steps.Poll now) answer given reports = IsReportEvent answer
@@ -287,6 +367,7 @@ is_pop (waits limits) = false
 is_pop (follows wait) = false
 is_pop (pairs retransmission) = false
 is_pop reports = false
+is_pop (notes e) = false
 
 abbrev pub one_more : Bool → ℕ → ℕ
 one_more true n = suc n
@@ -304,6 +385,7 @@ is_finish (waits limits) = false
 is_finish (follows wait) = false
 is_finish (pairs retransmission) = false
 is_finish reports = false
+is_finish (notes e) = false
 
 abbrev pub many_finishes : List ReceiverCall → ℕ
 many_finishes [] = 0
@@ -317,6 +399,7 @@ is_report (waits limits) = false
 is_report (follows wait) = false
 is_report (pairs retransmission) = false
 is_report reports = true
+is_report (notes e) = false
 
 abbrev pub many_reports : List ReceiverCall → ℕ
 many_reports [] = 0
@@ -330,6 +413,7 @@ is_pair (waits limits) = false
 is_pair (follows wait) = false
 is_pair (pairs retransmission) = true
 is_pair reports = false
+is_pair (notes e) = false
 
 abbrev pub HasNoPair : List ReceiverCall → Type 0
 HasNoPair [] = Unit {0}
@@ -341,13 +425,14 @@ IsPairFirst [] = Unit {0}
 IsPairFirst (c ∷ cs) = HasNoPair cs
 
 -- what one call makes of the receiver of a stream: what its answer shows, at most one pop, at most one end, at most one report, at most one pair, in front
--- of the rest, and nothing that this call cannot make of this stream
+-- of the rest, the edges right behind a datagram, and nothing that this call cannot make of this stream
 pub record IsPart (ssrc : ℕ) (f : Format) (w : FollowedWaits) (c : Call) (part : List ReceiverCall) : Type 0 where
   pub made : AreMadeBy ssrc f w c part
   pub one_pop : many_pops part ≤ 1
   pub one_end : many_finishes part ≤ 1
   pub one_report : many_reports part ≤ 1
   pub pair_first : IsPairFirst part
+  pub follow_each : FollowEach None part
   pub shows : shown part ≡ shown_in ssrc f.payload_type c
 
 -- the projection of a run to the receiver of a stream: for each call its part, in order
@@ -424,8 +509,8 @@ IsAbsent ssrc payload_type (s ∷ ss) = (is_of ssrc payload_type s ≡ false) ×
 -- a stream of a session is a receiver alone. The run is cut in front of the datagram with which the stream began. The session had no
 -- such stream there, and the settings of the run, except for pairs of SSRCs. The receiver was then a new one, with the settings of
 -- its format and its SSRC. From there on it made exactly the calls of the projection. They show the datagrams that answers give to
--- its SSRC and payload type, and the units and refused frames of its events, in order. Its announcement is the first of its events, and none of them is
--- an end
+-- its SSRC and payload type, and the units and refused frames of its events, in order. The edges of its pictures follow one another from none on. Its
+-- announcement is the first of its events, and none of them is an end
 pub record IsAlone (settings : SessionSettings) (calls : List Call) (ssrc : ℕ) (f : Format) (announced : Bool) (r : Receiver) : Type 0 where
   pub before : List Call
   pub during : List Call
@@ -439,6 +524,8 @@ pub record IsAlone (settings : SessionSettings) (calls : List Call) (ssrc : ℕ)
   pub begins : Begins reached.settings ssrc f fresh
   pub own : List ReceiverCall
   pub alone : RunsAlone own fresh.receiver r
+  pub edges : Option Followed
+  pub edged : EdgesRun (rules_for f settings.dependency_descriptor) None own edges
   pub projects : Projects ssrc f (waits_for settings ssrc f) during own
   pub shows : shown own ≡ shown_of ssrc f.payload_type during
   pub tells : AreOfOne false (events_of ssrc f.payload_type during) announced
@@ -474,6 +561,9 @@ pub record EndedAlone (settings : SessionSettings) (before : List Call) (now : T
   pub one_end : many_finishes part ≤ 1
   pub one_report : many_reports part ≤ 1
   pub no_unit : shown part ≡ []
+  pub follow_each : FollowEach None part
+  pub edges : Option Followed
+  pub edged : EdgesRun (rules_for format settings.dependency_descriptor) alone.edges part edges
 
 -- each stream whose end is an event of the run
 abbrev pub EachEndedAlone : SessionSettings → List Call → Type 0

@@ -1,5 +1,5 @@
 -- What a call of a session cannot make of the receiver of a stream.
-use Rattle.std.specs.Prelude.{◌≡◌, ◌≤◌, ℕ, List, ◌∷◌, Option, Some, None, Ok}
+use Rattle.std.specs.Prelude.{◌≡◌, ◌≤◌, ℕ, List, [], ◌∷◌, ◌++◌, Option, Some, None, Ok}
 use Rattle.std.specs.Global.{Vec}
 use Rattle.codec_payload_base.specs.declared.wire.Ticks.{Ticks}
 use Rattle.codec_payload_datagrams.specs.declared.kinds.Retransmission.{Retransmission}
@@ -7,7 +7,7 @@ use Rattle.codec_payload_jitter.specs.declared.outcome.Outcome.{Outcome}
 use Rattle.codec_payload_session_formats.specs.declared.formats.Format.{Format}
 use Rattle.codec_payload_session_stream.specs.Units.{Event}
 use Rattle.codec_payload_session_stream.specs.declared.arrival.Arrival.TheVariants as arrivals
-use Rattle.codec_payload_session_runs.specs.Lives.{FollowedWaits, IsInRange, IsPart, IsReportEvent, ReceiverCall, follows, many_reports, pairs, reports}
+use Rattle.codec_payload_session_runs.specs.Lives.{EdgesCall, FollowedWaits, IsInRange, IsPart, IsReportEvent, ReceiverCall, follows, many_reports, notes, pairs, receives, reports, shown_in}
 use Rattle.codec_payload_session_runs.specs.SessionRuns.{Call}
 use Rattle.codec_payload_session_runs.specs.declared.run.SessionStep.{SessionStep}
 use Rattle.codec_payload_session_runs.specs.declared.run.SessionStep.TheVariants as steps
@@ -54,3 +54,15 @@ abbrev pub WaitsWithin : Type 0
 WaitsWithin =
     (ssrc : ℕ) (f : Format) (w : FollowedWaits) (now : Ticks) (micros : Option ℕ) (datagram : Vec ℕ) (answer : StepAnswer) (wait : ℕ) (rest : List ReceiverCall)
     → IsPart ssrc f w (datagram_call now micros datagram answer) (follows wait ∷ rest) → IsInRange w wait
+
+-- the edges of a stream follow a datagram that the stream took: it is the one that the answer shows
+abbrev pub NotesWhatIsShown : Type 0
+NotesWhatIsShown =
+    (ssrc : ℕ) (f : Format) (w : FollowedWaits) (c : Call) (front : List ReceiverCall) (e : EdgesCall) (rest : List ReceiverCall)
+    → IsPart ssrc f w c (front ++ notes e ∷ rest) → (now : Ticks) × (shown_in ssrc f.payload_type c ≡ receives now e.bytes e.received ∷ [])
+
+-- they follow it right behind its receipt
+abbrev pub NotesBehindReceipt : Type 0
+NotesBehindReceipt =
+    (ssrc : ℕ) (f : Format) (w : FollowedWaits) (c : Call) (front : List ReceiverCall) (e : EdgesCall) (rest : List ReceiverCall)
+    → IsPart ssrc f w c (front ++ notes e ∷ rest) → (before : List ReceiverCall) × (now : Ticks) × (front ≡ before ++ receives now e.bytes e.received ∷ [])

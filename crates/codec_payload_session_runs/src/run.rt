@@ -9,7 +9,7 @@ ghost use Rattle.codec_payload_session_runs.specs.Counting.{Counts};
 ghost use Rattle.codec_payload_session_runs.specs.Endings.{EndsHaveCauses, FinishesHaveCauses, StreamsAreAlone, TwoDatagramsBegin};
 ghost use Rattle.codec_payload_session_runs.specs.Lives.{EachEndedAlone, EachIsAlone, TellsInOrder};
 ghost use Rattle.codec_payload_session_runs.specs.SessionRuns.{Does, Runs, calls_of, refusal_of};
-ghost use Rattle.codec_payload_session_runs.specs.Tightness.{PairsByFormat, PairsNoOther, ReportsOnce, ReportsWithReport, UnpairsNone, WaitsWithin};
+ghost use Rattle.codec_payload_session_runs.specs.Tightness.{NotesBehindReceipt, NotesWhatIsShown, PairsByFormat, PairsNoOther, ReportsOnce, ReportsWithReport, UnpairsNone, WaitsWithin};
 
 use codec_payload_base::wire::Ticks;
 use codec_payload_jitter::waiting::WaitLimits;
@@ -144,7 +144,8 @@ pub fn finishes_have_causes()
 {}
 
 /// What one call makes of the receiver of a stream is bounded: retransmissions only by a datagram for its SSRC and with the payload type
-/// of its format, one report at most and only with the event of a report, and `max_wait` only within the ranges of the stream.
+/// of its format, one report at most and only with the event of a report, and `max_wait` only within the ranges of the stream. The edges
+/// of its pictures follow only a datagram that the stream took, right behind its receipt.
 pub fn parts_are_tight()
     ensures pairs { PairsNoOther }
     ensures unpairs { UnpairsNone }
@@ -152,6 +153,8 @@ pub fn parts_are_tight()
     ensures reports { ReportsWithReport }
     ensures once { ReportsOnce }
     ensures waits { WaitsWithin }
+    ensures notes { NotesWhatIsShown }
+    ensures behind { NotesBehindReceipt }
 {}
 
 /// At each moment of a run each stream is a receiver alone, also one that a new SSRC replaces before it is announced.

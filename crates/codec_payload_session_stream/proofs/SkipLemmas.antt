@@ -194,6 +194,7 @@ seen s = record {
   ssrc = s.ssrc;
   format = s.format;
   receiver = s.receiver;
+  edges = record { descriptor = s.descriptor; followed = s.edges };
   stage = s.stage;
   announced = s.announced;
   taken = s.taken;

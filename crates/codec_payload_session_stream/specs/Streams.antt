@@ -24,6 +24,7 @@ use Rattle.codec_payload_rtp.specs.RtpPackets.{Packet}
 use Rattle.codec_payload_rtp.specs.RtpReading.{rtp_at}
 use Rattle.codec_payload_rtp.specs.declared.rtp.RtpError.{RtpError}
 use Rattle.codec_payload_session_formats.specs.Formats.{HasSettings, is_video, limits_for}
+use Rattle.codec_payload_session_requests.specs.Named.{FollowsEdges, rules_for}
 use Rattle.codec_payload_session_requests.specs.Late.{late_after, late_for, limit_by, number_at as late_number}
 use Rattle.codec_payload_session_formats.specs.Names.{are_of_one, names_after, no_names}
 use Rattle.codec_payload_session_requests.specs.Requests.{Asking, Asks, answer_by, answered_if, asked_by, feedback_by, heard_by, is_heard, number_at, reported_by, request_counts_of, requests_due, round_trip_of, wait_by}
@@ -33,6 +34,8 @@ use Rattle.codec_payload_session_requests.specs.declared.requests.KeyframeAnswer
 use Rattle.codec_payload_session_requests.specs.declared.requests.KeyframeAnswer.TheVariants as answers
 use Rattle.codec_payload_session_formats.specs.declared.names.StreamNameIds.{StreamNameIds}
 use Rattle.codec_payload_session_formats.specs.declared.names.StreamNames.{StreamNames}
+use Rattle.codec_payload_stream_edges.specs.declared.followed.Followed.{Followed}
+use Rattle.codec_payload_stream_edges.specs.declared.rules.EdgeRules.{EdgeRules}
 use Rattle.codec_payload_session_stream.specs.declared.stream.Ending.{Ending}
 use Rattle.codec_payload_session_stream.specs.declared.stream.Ending.TheVariants as endings
 use Rattle.codec_payload_session_stream.specs.declared.stream.Stage.{Stage}
@@ -43,7 +46,12 @@ use Rattle.codec_payload_session_stream.specs.declared.stream.Step.TheVariants a
 use Rattle.codec_payload_session_stream.specs.declared.reports.SenderClock.{SenderClock}
 use Rattle.codec_payload_session_stream.specs.declared.stream.StreamInfo.{StreamInfo}
 
--- a stream, as contracts see it: its SSRC and format; its receiver; its stage; whether it was announced; how many datagrams it
+-- the edges of a stream's pictures, and the id of the header extension element with its dependency descriptor
+pub record Edges : Type 0 where
+  pub descriptor : Option ℕ
+  pub followed : Option Followed
+
+-- a stream, as contracts see it: its SSRC and format; its receiver; the edges of its pictures; its stage; whether it was announced; how many datagrams it
 -- took, how many of them were accepted, and how many bytes of payload they had; when the latest one arrived; what it requests; how late its missing packets arrive, if
 -- waiting follows that; the clock of its sender; whether this round of reports had a block about it; which header extensions have its
 -- names, and the names that its accepted packets had
@@ -51,6 +59,7 @@ pub record StreamState : Type 0 where
   pub ssrc : ℕ
   pub format : Format
   pub receiver : Receiver
+  pub edges : Edges
   pub stage : Stage
   pub announced : Bool
   pub taken : ℕ
@@ -68,11 +77,12 @@ pub record StreamState : Type 0 where
 abbrev pub is_of : ℕ → ℕ → StreamState → Bool
 is_of ssrc payload_type s = (s.ssrc == ssrc) && (s.format.payload_type == payload_type)
 
--- a stream without datagrams; its receiver is a new one with the stream's settings, nothing was requested, no sender report
--- arrived, and it has no names
+-- a stream without datagrams; its receiver is a new one with the stream's settings, no edges are known, nothing was requested, no
+-- sender report arrived, and it has no names
 pub record Begins (settings : SessionSettings) (ssrc : ℕ) (f : Format) (s : StreamState) : Type 0 where
   pub ssrc_is : s.ssrc ≡ ssrc
   pub format : s.format ≡ f
+  pub edges : s.edges ≡ record { descriptor = settings.dependency_descriptor; followed = None }
   pub stage : s.stage ≡ stages.Probation
   pub announced : s.announced ≡ false
   pub taken : s.taken ≡ 0
@@ -172,11 +182,29 @@ abbrev pub received : ℕ → List ℕ → Bool → Receiver → StreamState →
 received now bytes true r s = following (record s { receiver = r; feedback = heard_by now (number_at s.format bytes) s.feedback; names = names_after s.name_ids bytes s.names })
 received now bytes false r s = record s { receiver = r }
 
--- the receiver receives the datagram; if memory runs out for it, nothing is counted
+-- how packets of the stream say where pictures begin and end
+abbrev pub edge_rules_of : StreamState → EdgeRules
+edge_rules_of s = rules_for s.format s.edges.descriptor
+
+-- the stream with this receiver and these edges
+abbrev pub with_edges : Receiver → Option Followed → StreamState → StreamState
+with_edges r followed s = record s { receiver = r; edges = record s.edges { followed = followed } }
+
+-- the edges follow a datagram that the receiver answered so: the receiver notes which numbers carry no media
+abbrev pub FollowsDatagram : List ℕ → Result Outcome ReceiveError → StreamState → StreamState → Type 0
+FollowsDatagram bytes answer s t = FollowsEdges (edge_rules_of s) bytes answer s.edges.followed s.receiver t.edges.followed t.receiver × (t ≡ with_edges t.receiver t.edges.followed s)
+
+-- the receiver receives the datagram, and then the edges follow it
+pub record Hears (now : Ticks) (bytes : List ℕ) (s : StreamState) (answer : Result Outcome ReceiveError) (r : Receiver) (followed : Option Followed) : Type 0 where
+  pub mid : Receiver
+  pub receives : ReceivesBytes now bytes s.receiver answer mid
+  pub follows : FollowsEdges (edge_rules_of s) bytes answer s.edges.followed mid followed r
+
+-- the receiver receives the datagram, and the edges follow it; if memory runs out for it, nothing is counted
 abbrev pub Takes : Ticks → ℕ → List ℕ → StreamState → Result Outcome ReceiveError → StreamState → Type 0
 Takes now probation bytes s answer t =
-    (r : Receiver) × ReceivesBytes now bytes s.receiver answer r
-    × (t ≡ heard_unless (is_no_memory answer) now.0 probation (is_accepted answer) (payload_size (rtp_at bytes)) (late_followed (is_ok answer) now.0 bytes (received now.0 bytes (is_accepted answer) r s)))
+    (r : Receiver) × (followed : Option Followed) × Hears now bytes s answer r followed
+    × (t ≡ heard_unless (is_no_memory answer) now.0 probation (is_accepted answer) (payload_size (rtp_at bytes)) (late_followed (is_ok answer) now.0 bytes (received now.0 bytes (is_accepted answer) r (with_edges r followed s))))
 
 -- the stream is announced, and has the names of this sender under another SSRC
 abbrev pub is_former : ℕ → StreamNames → StreamState → Bool

@@ -1,4 +1,4 @@
-//! A sender that continues in another format: its earlier stream leaves.
+//! A sender that continues in another format: its earlier stream leaves, and the new one has the names of the SSRC.
 
 ghost use Rattle.std.specs.Prelude.{◌≡◌, true};
 ghost use Rattle.std.specs.List.{position};
@@ -8,6 +8,7 @@ ghost use Rattle.codec_payload_session_formats.specs.Formats.{is_video};
 use crate::stream::StreamState;
 use codec_payload_base::wire::Codec;
 use codec_payload_session_formats::formats::{Format, is_video};
+use codec_payload_session_formats::names::StreamNames;
 
 /// Returns whether this codec is sent in turn with audio that goes on.
 #[inline(always)]
@@ -23,6 +24,16 @@ pub(crate) fn are_alike(one: Codec, other: Codec) -> bool
     ensures { result ≡ are_alike (is_video one) (is_video other) }
 {
     is_video(one) == is_video(other)
+}
+
+impl StreamState {
+    /// Gives a new stream the names that another stream of its SSRC has.
+    pub fn tell_names(&mut self, names: StreamNames)
+        ensures { self.new ≡ record self.old { names = names } }
+    {
+        self.quiet_until = 0;
+        self.names = names;
+    }
 }
 
 /// Returns whether the sender continues in this format: its stream is announced.

@@ -4,6 +4,7 @@
 pub mod arrival;
 pub mod changes;
 pub mod dues;
+mod edges;
 pub mod events;
 pub mod pairs;
 pub mod renegotiation;

@@ -9,7 +9,7 @@ ghost use Rattle.codec_payload_session_stream.specs.Pairs.{paired_if};
 ghost use Rattle.codec_payload_session_stream.specs.Quiet.{RestsUntil, is_done};
 ghost use Rattle.codec_payload_session_requests.specs.Requests.{IsCalm, wait_by};
 ghost use Rattle.codec_payload_rtp.specs.RtpReading.{rtp_at};
-ghost use Rattle.codec_payload_session_stream.specs.Streams.{Begins, Drains, IsInfo, Pops, RequestsBy, RestsBy, Steps, Takes, answer_for, asked_for, due_of, end_of, heard, heard_unless, is_accepted, is_ending, is_former, is_keyframe, is_no_memory, is_of, is_probation, late_followed, left, left_when, payload_size, received, step_of, step_with, trip_if, waiting_for, waiting_if, work_deadline};
+ghost use Rattle.codec_payload_session_stream.specs.Streams.{Begins, Drains, IsInfo, Pops, RequestsBy, RestsBy, Steps, Takes, answer_for, asked_for, due_of, end_of, heard, heard_unless, is_accepted, is_ending, is_former, is_keyframe, is_no_memory, is_of, is_probation, late_followed, left, left_when, payload_size, received, step_of, step_with, waiting_for, waiting_if, work_deadline};
 ghost use Rattle.codec_payload_session_stream.specs.Turns.{is_nothing};
 ghost use Rattle.codec_payload_session_stream.specs.Units.{step_to};
 ghost use Rattle.codec_payload_session_stream.specs.Waking.{WakesAt, or_max};
@@ -38,8 +38,9 @@ use codec_payload_session_requests::late::{follow, late_for, limit_by};
 use codec_payload_session_requests::named::NamedReceiver;
 use codec_payload_session_requests::requests::{
     Feedback, KeyframeAnswer, answer_if, are_idle, ask_keyframe, hear, request_counts,
-    requests_due, rest_time, round_trip, set_reported, wait_by,
+    requests_due, rest_time, round_trip, wait_by,
 };
+use codec_payload_stream_edges::following::StreamEdges;
 use std::alloc::{AllocError, Global};
 use std::marker::Model;
 
@@ -102,6 +103,10 @@ pub struct StreamState {
     pub ssrc: u32,
     pub format: Format,
     pub receiver: NamedReceiver,
+    /// The edges of its pictures: they show which of its missing numbers carry no media.
+    pub(crate) edges: StreamEdges,
+    /// The id of the header extension element with the dependency descriptor.
+    pub(crate) descriptor: Option<u8>,
     pub stage: Stage,
     /// Whether the stream was announced.
     pub announced: bool,
@@ -142,6 +147,7 @@ impl Model for StreamState {
       ssrc = s.ssrc;
       format = s.format;
       receiver = s.receiver;
+      edges = record { descriptor = s.descriptor; followed = s.edges };
       stage = s.stage;
       announced = s.announced;
       taken = s.taken;
@@ -199,6 +205,7 @@ impl StreamState {
         let feedback = Feedback::begin(alloc, &settings.feedback, ssrc, format, max_wait)?;
         let late = late_for(alloc, settings, format)?;
         let name_ids = settings.name_ids;
+        let descriptor = settings.dependency_descriptor;
         let settings = settings.receiver(alloc, ssrc, format)?;
         let begun = NamedReceiver::begin(alloc, depacketizer, settings)?;
         let receiver = begun.unwrap();
@@ -206,6 +213,8 @@ impl StreamState {
             ssrc,
             format: *format,
             receiver,
+            edges: StreamEdges::new(alloc),
+            descriptor,
             stage: Stage::Probation,
             announced: false,
             taken: 0,
@@ -238,7 +247,8 @@ impl StreamState {
         is_probation(self.stage)
     }
 
-    /// Passes a datagram to the receiver. If memory runs out, only the receiver may have changed.
+    /// Passes a datagram to the receiver, and records which numbers carry no media. If memory runs out, only the receiver may have
+    /// changed.
     #[inline(always)]
     pub fn take(
         &mut self,
@@ -250,6 +260,7 @@ impl StreamState {
     {
         self.quiet_until = 0;
         let answer = self.receiver.receive(now, datagram);
+        self.follow_edges(datagram, &answer);
         let accepted = is_accepted(&answer);
         self.hear_if(accepted, now, datagram);
         self.follow_if(answer.is_ok(), now, datagram);
@@ -307,7 +318,7 @@ impl StreamState {
 
     /// Waits for as long as the round trip asks for, if waiting follows it and it is sure.
     #[inline(always)]
-    fn follow_round_trip(&mut self)
+    pub(crate) fn follow_round_trip(&mut self)
         ensures { self.new ≡ waiting_for (wait_by self.old.feedback) self.old }
     {
         let wait = wait_by(&self.feedback);
@@ -407,18 +418,6 @@ impl StreamState {
         if self.is_of(ssrc, payload_type) {
             self.quiet_until = 0;
             self.receiver.set_wait_limits(wait_limits);
-        }
-    }
-
-    /// Sets the round trip that reports measured, in ticks, and waits by it, if the stream has this SSRC and payload type. `None`: the
-    /// answers to requests count.
-    pub fn set_round_trip_if(&mut self, ssrc: u32, payload_type: u8, round_trip: Option<u64>)
-        ensures { self.new ≡ trip_if ssrc payload_type round_trip self.old }
-    {
-        if self.is_of(ssrc, payload_type) {
-            self.quiet_until = 0;
-            set_reported(&mut self.feedback, round_trip);
-            self.follow_round_trip();
         }
     }
 

@@ -1,6 +1,7 @@
 //! The round trip that reports measured for all streams of a session.
 
 ghost use Rattle.std.specs.Prelude.{◌≡◌};
+ghost use Rattle.codec_payload_session_stream.specs.Streams.{trip_if};
 ghost use Rattle.codec_payload_session_stream.specs.Trips.{ReportedTripsCount, with_round_trip, with_round_trips};
 
 use crate::stream::StreamState;
@@ -20,6 +21,18 @@ impl StreamState {
     {
         self.quiet_until = 0;
         set_reported(&mut self.feedback, round_trip);
+    }
+
+    /// Sets the round trip that reports measured, in ticks, and waits by it, if the stream has this SSRC and payload type. `None`: the
+    /// answers to requests count.
+    pub fn set_round_trip_if(&mut self, ssrc: u32, payload_type: u8, round_trip: Option<u64>)
+        ensures { self.new ≡ trip_if ssrc payload_type round_trip self.old }
+    {
+        if self.is_of(ssrc, payload_type) {
+            self.quiet_until = 0;
+            set_reported(&mut self.feedback, round_trip);
+            self.follow_round_trip();
+        }
     }
 }
 

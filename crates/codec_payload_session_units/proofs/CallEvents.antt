@@ -1,6 +1,7 @@
 -- The calls of a stream's receiver, as events of its buffer. Wait limits and known retransmissions may change between them.
-use Rattle.std.proofs.Common.{◌≡◌, ◌≢◌, ◌∙◌, refl, sym, ap, subst, ℕ, ◌+◌, ◌%◌, ◌^◌, ◌<◌, ◌⊎◌, List, [], ◌∷◌, Bool, true, false, not, Option, Some, None, Result, map}
+use Rattle.std.proofs.Common.{◌≡◌, ◌≢◌, ◌∙◌, refl, sym, ap, subst, ℕ, ◌+◌, ◌%◌, ◌^◌, ◌<◌, ◌⊎◌, List, [], ◌∷◌, Bool, true, false, not, Option, Some, None, Result, map, subst₂, inl, inr, length, arith}
 use Rattle.std.specs.Prelude.{slice_get}
+use Rattle.std.proofs.lemmas.Option.{slice_get_within}
 use Rattle.std.specs.declared.alloc.AllocError.{AllocError}
 use Rattle.codec_payload_base.specs.declared.wire.Ticks.{Ticks}
 use Rattle.codec_payload_buffer.specs.Held.{Held}
@@ -34,11 +35,31 @@ use Rattle.codec_payload_rtp.specs.declared.values.ExtensionIds.{ExtensionIds}
 use Rattle.codec_payload_sending.specs.declared.sender.Outgoing.{Outgoing}
 use Rattle.codec_payload_sending_history.specs.declared.retransmission.RetransmissionStream.{RetransmissionStream}
 use Rattle.codec_payload_session_stream.specs.Streams.{is_no_memory}
-use Rattle.codec_payload_session_runs.specs.Lives.{ReceiverCall, RunsAlone, finishes, follows, pairs, pops, receives, reports, waits, with_shown}
+use Rattle.codec_payload_session_runs.specs.Lives.{ReceiverCall, RunsAlone, finishes, follows, pairs, pops, receives, reports, waits, with_shown, notes, Answered, EdgesCall, EdgesRun, FollowEach, answered_unless, to_follow}
 use Rattle.codec_payload_datagram_runs.specs.declared.run.DatagramStep.{DatagramStep}
-use Rattle.codec_payload_session_units.specs.OneSender.{AreApartFrom, AreCopies, FoundMemory, answers_by, effective, steps_by}
+use Rattle.codec_payload_session_units.specs.OneSender.{AreApartFrom, AreCopies, FoundMemory, answers_by, effective, steps_by, IsCopyOf}
 use Rattle.codec_payload_session_units.specs.StreamUnits.{IsLogOfStream}
+use Rattle.codec_payload_base.specs.Extended.{extended as nearest_to}
+use Rattle.codec_payload_edges.specs.Senders.{FindsNothing}
+use Rattle.codec_payload_sending_history.specs.Histories.{Repeats}
+use Rattle.codec_payload_session_requests.specs.Named.{FollowsEdges}
+use Rattle.codec_payload_stream_edges.specs.declared.followed.Followed.{Followed}
+use Rattle.codec_payload_stream_edges.specs.declared.rules.EdgeRules.{EdgeRules}
+use Rattle.codec_payload_session_units.proofs.EdgeSteps.{Knows, edges_still}
+use Rattle.codec_payload_session_units.proofs.NearLemmas.{near_after, windows_stay}
+use Rattle.codec_payload_session_units.proofs.ShowLemmas.{IsCopyHere, IsFollowed}
 use Rattle.codec_payload_session_units.proofs.CopyLemmas.{HasType, IsStream, copy_is_pushed, found_memory, lost_leaves, not_again_by}
+
+-- the number of a retransmission, if the copy is one
+copy_number : (again : Option RetransmissionStream) (datagram bytes : List ℕ) (answer : Result Outcome ReceiveError) → IsCopyOf again datagram bytes answer → ℕ
+copy_number again datagram bytes answer (inl same) = 0
+copy_number again datagram bytes answer (inr repeated) = repeated.0
+
+copy_of : (again : Option RetransmissionStream) (datagram bytes : List ℕ) (answer : Result Outcome ReceiveError) (copy : IsCopyOf again datagram bytes answer)
+    → (bytes ≡ datagram) ⊎ Repeats again (copy_number again datagram bytes answer copy) datagram bytes
+unfolding copy_number
+copy_of again datagram bytes answer (inl same) = inl same
+copy_of again datagram bytes answer (inr repeated) = inr repeated.1
 
 -- each pair among these calls has the payload type that the format has for retransmissions
 abbrev pub AllTyped : Option ℕ → List ReceiverCall → Type 0
@@ -50,6 +71,7 @@ AllTyped own (waits limits ∷ calls) = AllTyped own calls
 AllTyped own (follows wait ∷ calls) = AllTyped own calls
 AllTyped own (pairs r ∷ calls) = HasType own r × AllTyped own calls
 AllTyped own (reports ∷ calls) = AllTyped own calls
+AllTyped own (notes e ∷ calls) = AllTyped own calls
 
 -- a log of these steps, from this stretch on, with these answers and this buffer in the end
 pub record HasLogOf (known : ℕ → Packet → RtpMeta → Type 0) (packets : List Packet) (at_end : Bool) (later : List DatagramStep) (w : Stretch) (answers : List Answer) (t : State) : Type 0 where
@@ -81,9 +103,14 @@ met_same stream packets later s mid answers t buffer at_end ids rest = record {
 
 module _ (own : Option ℕ) (again : Option RetransmissionStream) (stream : Outgoing) (types : (stream.payload_type < 64) ⊎ (95 < stream.payload_type)) (other : own ≢ Some stream.payload_type)
     (apart : AreApartFrom stream.ssrc again) (first : ℕ) (packets : List Packet) (datagrams : List (List ℕ)) (are : AreDatagrams stream packets datagrams) (numbered : AreNumbered first packets)
-    (time_of : ℕ → ℕ) where
+    (time_of : ℕ → ℕ) (few : first + length datagrams < 2 ^ 64) (nothing : FindsNothing) (k : EdgeRules) (followed : IsFollowed nothing k again stream first datagrams) where
   abbrev pub rate : ℕ
   rate = stream.clock_rate
+
+  -- the datagram in front, if the edges are to follow it, is a copy that the receiver has just received
+  abbrev pub IsHere : Option Answered → Receiver → Type 0
+  IsHere None s = Unit {0}
+  IsHere (Some answered) s = IsCopyHere again stream first datagrams answered.0 s
 
   -- the calls, from this receiver on
   pub record IsGoing (later : List ReceiverCall) (ks : List ℕ) (s t : Receiver) : Type 0 where
@@ -96,6 +123,14 @@ module _ (own : Option ℕ) (again : Option RetransmissionStream) (stream : Outg
     pub memory : FoundMemory (answers_by later)
     pub typed : AllTyped own later
     pub run : RunsAlone later s t
+    pub backward : s.packets.numbering.backward < 32768
+    pub last : Option Answered
+    pub each : FollowEach last later
+    pub here : IsHere last s
+    pub edges : Option Followed
+    pub knows : Knows nothing followed.sender followed.order followed.alone edges
+    pub after : Option Followed
+    pub edged : EdgesRun k edges later after
 
   abbrev pub Met : List ReceiverCall → List ℕ → Receiver → Receiver → Type 0
   Met later ks s t = IsMetBy stream packets (steps_by (effective later) ks) s (answers_by later) t
@@ -148,6 +183,19 @@ module _ (own : Option ℕ) (again : Option RetransmissionStream) (stream : Outg
       timely_next rate first packets s.packets.first mid.packets.first (answer_for s.packets.numbering (q.number % 2 ^ 16)) q.number q.rtp_time k ks
       g.timely one.first number p.3 stamped in
       let numbering : mid.packets.numbering ≡ numbering_after s.packets.numbering ((first + k) % 2 ^ 16) = one.numbering ∙ ap (λ (n : ℕ). numbering_after s.packets.numbering (n % 2 ^ 16)) p.3 in
+      let small : q.number < 2 ^ 64 = omega (arith, few, p.3, slice_get_within datagrams k datagram copies.0.1) in
+      let here : IsCopyHere again stream first datagrams bytes mid = record {
+        index = k;
+        packet = q;
+        datagram = datagram;
+        there = copies.0.1;
+        reads = p.2;
+        number = p.3;
+        next = copy_number again datagram bytes answer copies.0.2;
+        copy = copy_of again datagram bytes answer copies.0.2;
+        nearest = ap (λ (n : Numbering). nearest_to 65536 n.greatest (q.number % 2 ^ 16)) one.numbering ∙ near_after s.packets.numbering q.number number g.backward small;
+        ssrc_is = one.listening.ssrc;
+      } in
       let rest = go ks mid (record {
         is = record {
           listening = one.listening;
@@ -162,6 +210,14 @@ module _ (own : Option ℕ) (again : Option RetransmissionStream) (stream : Outg
         memory = g.memory;
         typed = g.typed;
         run = g.run.2;
+        backward = subst (λ (n : ℕ). n < 32768) (sym (ap (λ (n : Numbering). n.backward) numbering ∙ windows_stay s.packets.numbering ((first + k) % 2 ^ 16))) g.backward;
+        last = to_follow (receives now bytes answer);
+        each = g.each.1;
+        here = subst (λ (b : Bool). IsHere (answered_unless b bytes answer) mid) (sym found) here;
+        edges = g.edges;
+        knows = g.knows;
+        after = g.after;
+        edged = g.edged.1;
       }) in
       record {
         events = Arrives k one.meta ∷ rest.events;
@@ -203,6 +259,14 @@ module _ (own : Option ℕ) (again : Option RetransmissionStream) (stream : Outg
         memory = g.memory;
         typed = g.typed;
         run = subst (λ (x : Receiver). RunsAlone later x t) same g.run.2;
+        backward = g.backward;
+        last = to_follow (receives now bytes answer);
+        each = g.each.1;
+        here = subst (λ (b : Bool). IsHere (answered_unless b bytes answer) s) (sym is) tt;
+        edges = g.edges;
+        knows = g.knows;
+        after = g.after;
+        edged = g.edged.1;
       })
 
   popped_then : (now : Ticks) (answer : Option (Result (Popped Release) AllocError)) (later : List ReceiverCall) (ks : List ℕ) (s t : Receiver) → Next later t → IsGoing (pops now answer ∷ later) ks s t → Met (pops now answer ∷ later) ks s t
@@ -224,6 +288,14 @@ module _ (own : Option ℕ) (again : Option RetransmissionStream) (stream : Outg
         memory = g.memory.1;
         typed = g.typed;
         run = g.run.2;
+        backward = subst (λ (n : Numbering). n.backward < 32768) (sym one.numbering) g.backward;
+        last = None;
+        each = g.each.1;
+        here = tt;
+        edges = g.edges;
+        knows = g.knows;
+        after = g.after;
+        edged = g.edged.1;
       }) in
       record {
         events = Asked one.wait ∷ rest.events;
@@ -257,6 +329,14 @@ module _ (own : Option ℕ) (again : Option RetransmissionStream) (stream : Outg
         memory = g.memory;
         typed = g.typed;
         run = subst (λ (x : Receiver). RunsAlone later x t) at_end g.run.2;
+        backward = g.backward;
+        last = None;
+        each = g.each.1;
+        here = tt;
+        edges = g.edges;
+        knows = g.knows;
+        after = g.after;
+        edged = g.edged.1;
       }) in
       record {
         events = rest.events;
@@ -270,8 +350,9 @@ module _ (own : Option ℕ) (again : Option RetransmissionStream) (stream : Outg
   changed_then : (later : List ReceiverCall) (ks : List ℕ) (s mid t : Receiver) → Next later t → IsStream own stream mid → mid.packets.numbering ≡ s.packets.numbering → mid.packets.first ≡ s.packets.first
       → mid.packets.noted ≡ s.packets.noted → mid.packets.buffer ≡ s.packets.buffer → mid.packets.ended ≡ s.packets.ended → mid.stream.ids ≡ s.stream.ids
       → AllNumbered first s.packets.numbering ks → AllTimed time_of first packets ks → StayTimely rate first packets s.packets.first ks → AreTimesOf time_of s.packets.noted
-      → AreCopies again datagrams (effective later) ks → FoundMemory (answers_by later) → AllTyped own later → RunsAlone later mid t → Met later ks s t
-  changed_then later ks s mid t go is numbering begins noted buffer at_end ids numbers timed timely times copies memory typed run =
+      → AreCopies again datagrams (effective later) ks → FoundMemory (answers_by later) → AllTyped own later → s.packets.numbering.backward < 32768 → FollowEach None later → (edges : Option Followed)
+      → Knows nothing followed.sender followed.order followed.alone edges → (after : Option Followed) → EdgesRun k edges later after → RunsAlone later mid t → Met later ks s t
+  changed_then later ks s mid t go is numbering begins noted buffer at_end ids numbers timed timely times copies memory typed backward each edges knows after edged run =
       met_same stream packets (steps_by (effective later) ks) s mid (answers_by later) t buffer at_end ids
       (go ks mid (record {
         is = is;
@@ -283,7 +364,42 @@ module _ (own : Option ℕ) (again : Option RetransmissionStream) (stream : Outg
         memory = memory;
         typed = typed;
         run = run;
+        backward = subst (λ (n : Numbering). n.backward < 32768) (sym numbering) backward;
+        last = None;
+        each = each;
+        here = tt;
+        edges = edges;
+        knows = knows;
+        after = after;
+        edged = edged;
       }))
+
+  -- the edges follow the datagram in front: they note nothing
+  noted_then : (e : EdgesCall) (later : List ReceiverCall) (ks : List ℕ) (s t : Receiver) → Next later t → IsGoing (notes e ∷ later) ks s t → Met later ks s t
+  noted_then e later ks s t go g =
+      let here : IsCopyHere again stream first datagrams e.bytes s = subst (λ (o : Option Answered). IsHere o s) g.each.0 g.here in
+      let follows : FollowsEdges k e.bytes e.received g.edges s e.after g.run.0 =
+      subst₂ (λ (rules : EdgeRules) (f : Option Followed). FollowsEdges rules e.bytes e.received f s e.after g.run.0) g.edged.0.0 g.edged.0.1 g.run.1 in
+      let still = edges_still nothing followed.sender followed.order followed.alone k e.bytes e.received g.edges s e.after g.run.0 g.knows (followed.shows e.bytes s here) follows in
+      go ks s (record {
+        is = g.is;
+        numbers = g.numbers;
+        timed = g.timed;
+        timely = g.timely;
+        times = g.times;
+        copies = g.copies;
+        memory = g.memory;
+        typed = g.typed;
+        run = subst (λ (x : Receiver). RunsAlone later x t) still.0 g.run.2;
+        backward = g.backward;
+        last = None;
+        each = g.each.1;
+        here = tt;
+        edges = e.after;
+        knows = still.1;
+        after = g.after;
+        edged = g.edged.1;
+      })
 
   pub met_calls : (later : List ReceiverCall) (ks : List ℕ) (s t : Receiver) → IsGoing later ks s t → Met later ks s t
   met_calls [] ks s t g = record {
@@ -299,15 +415,16 @@ module _ (own : Option ℕ) (again : Option RetransmissionStream) (stream : Outg
   met_calls (finishes ∷ later) ks s t g = finished_then later ks s t (λ more mid. met_calls later more mid t) g
   met_calls (waits limits ∷ later) ks s t g =
       let mid : Receiver = record s { packets = record s.packets { wait_limits = limits } } in
-      changed_then later ks s mid t (λ more mid. met_calls later more mid t) (listens s mid refl refl refl refl g.is.listening.running refl refl refl refl g.is) refl refl refl refl refl refl g.numbers g.timed g.timely g.times g.copies g.memory g.typed
+      changed_then later ks s mid t (λ more mid. met_calls later more mid t) (listens s mid refl refl refl refl g.is.listening.running refl refl refl refl g.is) refl refl refl refl refl refl g.numbers g.timed g.timely g.times g.copies g.memory g.typed g.backward g.each.1 g.edges g.knows g.after g.edged.1
       (subst (λ (x : Receiver). RunsAlone later x t) g.run.1 g.run.2)
   met_calls (follows wait ∷ later) ks s t g =
       let mid : Receiver = record s { packets = record s.packets { wait_limits = record s.packets.wait_limits { max_wait = Some wait } } } in
-      changed_then later ks s mid t (λ more mid. met_calls later more mid t) (listens s mid refl refl refl refl g.is.listening.running refl refl refl refl g.is) refl refl refl refl refl refl g.numbers g.timed g.timely g.times g.copies g.memory g.typed
+      changed_then later ks s mid t (λ more mid. met_calls later more mid t) (listens s mid refl refl refl refl g.is.listening.running refl refl refl refl g.is) refl refl refl refl refl refl g.numbers g.timed g.timely g.times g.copies g.memory g.typed g.backward g.each.1 g.edges g.knows g.after g.edged.1
       (subst (λ (x : Receiver). RunsAlone later x t) g.run.1 g.run.2)
+  met_calls (notes e ∷ later) ks s t g = noted_then e later ks s t (λ more mid. met_calls later more mid t) g
   met_calls (reports ∷ later) ks s t g =
       let mid : Receiver = record s { reception = reported s.reception } in
-      changed_then later ks s mid t (λ more mid. met_calls later more mid t) (listens s mid refl refl refl refl g.is.listening.running refl refl refl refl g.is) refl refl refl refl refl refl g.numbers g.timed g.timely g.times g.copies g.memory g.typed
+      changed_then later ks s mid t (λ more mid. met_calls later more mid t) (listens s mid refl refl refl refl g.is.listening.running refl refl refl refl g.is) refl refl refl refl refl refl g.numbers g.timed g.timely g.times g.copies g.memory g.typed g.backward g.each.1 g.edges g.knows g.after g.edged.1
       (subst (λ (x : Receiver). RunsAlone later x t) g.run.1 g.run.2)
   met_calls (pairs r ∷ later) ks s t g =
       let mid : Receiver = record s { stream = record s.stream { retransmission = r } } in
@@ -328,5 +445,5 @@ module _ (own : Option ℕ) (again : Option RetransmissionStream) (stream : Outg
         no_red = g.is.no_red;
         typed = g.typed.0;
       } in
-      changed_then later ks s mid t (λ more mid. met_calls later more mid t) is refl refl refl refl refl refl g.numbers g.timed g.timely g.times g.copies g.memory g.typed.1
+      changed_then later ks s mid t (λ more mid. met_calls later more mid t) is refl refl refl refl refl refl g.numbers g.timed g.timely g.times g.copies g.memory g.typed.1 g.backward g.each.1 g.edges g.knows g.after g.edged.1
       (subst (λ (x : Receiver). RunsAlone later x t) g.run.1 g.run.2)

@@ -9,6 +9,7 @@ use Rattle.codec_payload_metadata.specs.Release.{Release}
 use Rattle.codec_payload_session_formats.specs.declared.formats.SessionSettings.{SessionSettings}
 use Rattle.codec_payload_session_units.specs.Example.{AreSent, IsSendersAt, Sent, StreamsCanBeMet, again_stream, calls_made, opus_format, other_sender}
 use Rattle.codec_payload_session_units.specs.OneSender.{IsSenderFor}
+use Rattle.codec_payload_session_units.proofs.PlainLemmas.{sends_plain}
 
 for_first : (settings : SessionSettings) → settings.from_keyframe ≡ modes.Mark → IsSenderFor settings 7 opus_format opus_sender
 for_first settings mode = record {
@@ -47,6 +48,7 @@ first_met settings mode sent are r1 r2 r3 q1 = record {
     datagrams = sent.first.items ∷ sent.second.items ∷ sent.third.items ∷ [];
     sends = are.sends;
     few = lit< tt;
+    undescribed = sends_plain settings.dependency_descriptor frames_sent opus_sender one_each (sent.first.items ∷ sent.second.items ∷ sent.third.items ∷ []) (λ values. refl) are.sends;
     sender_for = for_first settings mode;
     apart = (λ e. let same : 8 ≡ 7 = e in absurd (omega (arith, same)), inr (lit< tt));
     readable = (refl, (refl, (refl, tt)));
@@ -72,6 +74,7 @@ other_met settings mode sent are r1 r2 r3 q1 = record {
     datagrams = sent.other_first.items ∷ sent.other_second.items ∷ sent.other_third.items ∷ [];
     sends = are.other_sends;
     few = lit< tt;
+    undescribed = sends_plain settings.dependency_descriptor frames_sent other_sender one_each (sent.other_first.items ∷ sent.other_second.items ∷ sent.other_third.items ∷ []) (λ values. refl) are.other_sends;
     sender_for = for_other settings mode;
     apart = tt;
     readable = (refl, (refl, (refl, tt)));

@@ -1,12 +1,17 @@
 pub mod BeginLemmas
 pub mod CallEvents
 pub mod CopyLemmas
+pub mod EdgeSteps
 pub mod ExampleLemmas
+pub mod NearLemmas
+pub mod PlaceLemmas
+pub mod PlainLemmas
 pub mod RedCalls
 pub mod RedExampleLemmas
 pub mod RedLogs
 pub mod RedUnits
 pub mod SentLemmas
+pub mod ShowLemmas
 pub mod ShownLemmas
 pub mod StreamLogs
 pub mod TellLemmas

@@ -1,5 +1,5 @@
 -- The calls of a stream's receiver in RED, as a course of its buffer. Wait limits may change between them.
-use Rattle.std.proofs.Common.{◌≡◌, ◌∙◌, refl, sym, ap, subst, ℕ, ◌+◌, ◌%◌, ◌^◌, List, [], ◌∷◌, Bool, true, false, not, inl, inr, Option, Some, None, Result}
+use Rattle.std.proofs.Common.{◌≡◌, ◌∙◌, refl, sym, ap, subst, ℕ, ◌+◌, ◌%◌, ◌^◌, List, [], ◌∷◌, Bool, true, false, not, inl, inr, Option, Some, None, Result, ◌*◌, ◌&&◌, eqb, cond, Ok, Err}
 use Rattle.std.specs.Prelude.{slice_get, Contains}
 use Rattle.std.specs.declared.alloc.AllocError.{AllocError}
 use Rattle.codec_payload_base.specs.declared.wire.Ticks.{Ticks}
@@ -32,9 +32,19 @@ use Rattle.codec_payload_receiver.specs.declared.pops.Popped.{Popped}
 use Rattle.codec_payload_receiver.specs.declared.receiver.ReceiveError.{ReceiveError}
 use Rattle.codec_payload_sending_history.specs.declared.retransmission.RetransmissionStream.{RetransmissionStream}
 use Rattle.codec_payload_session_stream.specs.Streams.{is_no_memory}
-use Rattle.codec_payload_session_runs.specs.Lives.{ReceiverCall, RunsAlone, finishes, follows, pairs, pops, receives, reports, waits, with_shown}
+use Rattle.codec_payload_session_runs.specs.Lives.{ReceiverCall, RunsAlone, finishes, follows, pairs, pops, receives, reports, waits, with_shown, Answered, EdgesCall, EdgesRun, FollowEach, answered_unless, edges_after, notes, to_follow}
 use Rattle.codec_payload_session_units.specs.OneRedSender.{FoundBlocks}
-use Rattle.codec_payload_session_units.specs.OneSender.{AreCopies, FoundMemory, IsCopyOf, answers_by, effective, steps_by}
+use Rattle.codec_payload_session_units.specs.OneSender.{AreCopies, FoundMemory, IsCopyOf, answers_by, effective, steps_by, AreUndescribed}
+use Rattle.codec_payload_rtp.specs.ExtensionFormats.{bytes_for, elements_of}
+use Rattle.codec_payload_rtp.specs.RtpPackets.{Extension, Header}
+use Rattle.codec_payload_rtp.specs.RtpPackets as rtp
+use Rattle.codec_payload_rtp.specs.RtpReading.{rtp_at}
+use Rattle.codec_payload_rtp.specs.declared.rtp.RtpError.{RtpError}
+use Rattle.codec_payload_session_requests.specs.Named.{FollowsEdges}
+use Rattle.codec_payload_stream_edges.specs.Brought.{MediaPacket, brought, brought_again, brought_at, brought_read, edge_by, edge_of, edge_with, is_own_type, original_payload, own_payload, whole}
+use Rattle.codec_payload_stream_edges.specs.declared.followed.Followed.{Followed}
+use Rattle.codec_payload_stream_edges.specs.declared.rules.EdgeRules.{EdgeRules}
+use Rattle.codec_payload_session_units.proofs.EdgeSteps.{plain_still}
 use Rattle.codec_payload_session_units.proofs.CallEvents.{AllTyped}
 use Rattle.codec_payload_session_units.proofs.CopyLemmas.{HasType, found_memory, lost_leaves}
 
@@ -48,7 +58,58 @@ pub copy_is : (datagram bytes : List ℕ) (answer : Result Outcome ReceiveError)
 copy_is datagram bytes answer (inl same) = inl same
 copy_is datagram bytes answer (inr repeated) = inl repeated.1
 
-module _ (l : RedSide) (alone : l.again ≡ None) (unpaired : l.kinds.retransmission ≡ None) where
+-- ---- what the edges find in a packet has its header extension
+
+whole_extension : (h : Header) (number : ℕ) (o : Option (List ℕ)) (m : MediaPacket) → whole h number o ≡ Some m → m.extension ≡ h.extension
+whole_extension h number None m is = absurd (cc)
+whole_extension h number (Some bytes) m is = cc
+
+again_extension : (k : EdgeRules) (h : Header) (payload : List ℕ) (m : MediaPacket) → brought_again k h payload ≡ Some m → m.extension ≡ h.extension
+again_extension k h [] m is = absurd (cc)
+again_extension k h (high ∷ []) m is = absurd (cc)
+again_extension k h (high ∷ low ∷ bytes) m is = whole_extension h (high * 256 + low) (original_payload k h.payload_type bytes) m is
+
+packet_extension : (k : EdgeRules) (ssrc : ℕ) (p : rtp.Packet) (m : MediaPacket) → brought k ssrc p ≡ Some m → m.extension ≡ p.header.extension
+packet_extension k ssrc p m is = by (eqb p.header.ssrc ssrc && is_own_type k p.header.payload_type) is
+  where
+    by : (b : Bool) → cond b (whole p.header p.header.sequence_number (own_payload k p.header.payload_type p.payload)) (brought_again k p.header p.payload) ≡ Some m → m.extension ≡ p.header.extension
+    by true got = whole_extension p.header p.header.sequence_number (own_payload k p.header.payload_type p.payload) m got
+    by false got = again_extension k p.header p.payload m got
+
+read_extension : (k : EdgeRules) (ssrc : ℕ) (o : Result rtp.Packet RtpError) (m : MediaPacket) → brought_read k ssrc o ≡ Some m → (p : rtp.Packet) × (o ≡ Ok p) × (m.extension ≡ p.header.extension)
+read_extension k ssrc (Ok p) m is = (p, refl, packet_extension k ssrc p m is)
+read_extension k ssrc (Err e) m is = absurd (cc)
+
+same_bytes : (datagram bytes : List ℕ) (answer : Result Outcome ReceiveError) → IsCopyOf None datagram bytes answer → bytes ≡ datagram
+same_bytes datagram bytes answer (inl same) = same
+same_bytes datagram bytes answer (inr repeated) = repeated.1
+
+module _ (l : RedSide) (alone : l.again ≡ None) (unpaired : l.kinds.retransmission ≡ None) (rules : EdgeRules) (silent : (marker : Bool) (bytes : List ℕ) → edge_by rules.codec marker bytes ≡ None)
+    (plain : AreUndescribed rules.descriptor l.written) where
+  -- the datagram in front, if the edges are to follow it, was written
+  abbrev IsWritten : Option Answered → Type 0
+  IsWritten None = Unit {0}
+  IsWritten (Some answered) = (index : ℕ) × (slice_get l.written index ≡ Some answered.0)
+
+  -- the edges of these calls
+  pub record IsEdged (later : List ReceiverCall) : Type 0 where
+    pub last : Option Answered
+    pub each : FollowEach last later
+    pub here : IsWritten last
+    pub edges : Option Followed
+    pub after : Option Followed
+    pub edged : EdgesRun rules edges later after
+
+  edged_next : (c : ReceiverCall) (later : List ReceiverCall) → IsEdged (c ∷ later) → IsWritten (to_follow c) → IsEdged later
+  edged_next c later is here = record { last = to_follow c; each = is.each.1; here = here; edges = edges_after is.edges c; after = is.after; edged = is.edged.1 }
+
+  -- a datagram that was written says nothing of its picture
+  says_nothing : (bytes : List ℕ) (index ssrc : ℕ) (m : MediaPacket) → slice_get l.written index ≡ Some bytes → brought_at rules ssrc bytes ≡ Some m → edge_of rules m ≡ None
+  says_nothing bytes index ssrc m there is =
+      let read = read_extension rules ssrc (rtp_at bytes) m is in
+      let none : bytes_for rules.descriptor (elements_of m.extension) ≡ None = ap (λ (x : Option Extension). bytes_for rules.descriptor (elements_of x)) read.2 ∙ plain index bytes read.0 there read.1 in
+      ap (λ (o : Option (List ℕ)). edge_with o rules.codec m.marker m.bytes) none ∙ silent m.marker m.bytes
+
   -- the calls, from this receiver on
   pub record IsGoingInRed (later : List ReceiverCall) (ks : List ℕ) (s t : Receiver) : Type 0 where
     pub tuned : Tuned l s
@@ -60,6 +121,7 @@ module _ (l : RedSide) (alone : l.again ≡ None) (unpaired : l.kinds.retransmis
     pub typed : AllTyped None later
     pub inside : (k : ℕ) (at : Ticks) → IsIn (steps.Deliver k at) (steps_by (effective later) ks) → IsIn (steps.Deliver k at) l.received
     pub run : RunsAlone later s t
+    pub edged : IsEdged later
 
   -- a datagram that the receiver takes, and the calls after it
   pub record IsTaken (now : Ticks) (bytes : List ℕ) (answer : Result Outcome ReceiveError) (later : List ReceiverCall) (k : ℕ) (ks : List ℕ) (s t : Receiver) : Type 0 where
@@ -111,6 +173,8 @@ module _ (l : RedSide) (alone : l.again ≡ None) (unpaired : l.kinds.retransmis
           typed = g.typed;
           inside = λ j at is. inside j at (inr is);
           run = g.run.2;
+          edged = edged_next (receives now bytes answer) later g.edged
+              (subst (λ (b : Bool). IsWritten (answered_unless b bytes answer)) (sym found) (k, subst (λ (x : List ℕ). slice_get l.written k ≡ Some x) (sym (same_bytes copies.0.0 bytes answer copies.0.2)) copies.0.1));
         };
       }
 
@@ -136,6 +200,7 @@ module _ (l : RedSide) (alone : l.again ≡ None) (unpaired : l.kinds.retransmis
         typed = g.typed;
         inside = subst (λ (b : Bool). Inside (with_shown (not b) (receives now bytes answer) (effective later)) ks) is g.inside;
         run = subst (λ (x : Receiver). RunsAlone later x t) same g.run.2;
+        edged = edged_next (receives now bytes answer) later g.edged (subst (λ (b : Bool). IsWritten (answered_unless b bytes answer)) (sym is) tt);
       }
 
   -- a pop, and the calls after it
@@ -161,6 +226,7 @@ module _ (l : RedSide) (alone : l.again ≡ None) (unpaired : l.kinds.retransmis
           typed = g.typed;
           inside = λ j at is. g.inside j at (inr is);
           run = g.run.2;
+          edged = edged_next (pops now answer) later g.edged tt;
         };
       }
 
@@ -177,6 +243,7 @@ module _ (l : RedSide) (alone : l.again ≡ None) (unpaired : l.kinds.retransmis
         typed = g.typed;
         inside = λ j at is. g.inside j at (inr is);
         run = subst (λ (x : Receiver). RunsAlone later x t) at_end g.run.2;
+        edged = edged_next finishes later g.edged tt;
       }
 
   -- a receiver that differs in nothing of which the stream speaks
@@ -199,8 +266,8 @@ module _ (l : RedSide) (alone : l.again ≡ None) (unpaired : l.kinds.retransmis
 
   going_with : (later : List ReceiverCall) (ks : List ℕ) (s mid t : Receiver) → Tuned l mid → mid.packets.numbering ≡ s.packets.numbering → mid.seen ≡ s.seen → mid.packets.first ≡ s.packets.first
       → AllNumbered l.c.first s.packets.numbering ks → Timely l s ks → AreCopies None l.written (effective later) ks → FoundBlocks (effective later) → FoundMemory (answers_by later) → AllTyped None later
-      → Inside (effective later) ks → RunsAlone later mid t → IsGoingInRed later ks mid t
-  going_with later ks s mid t tuned numbering seen begins numbers in_time copies blocks memory typed inside run = record {
+      → Inside (effective later) ks → IsEdged later → RunsAlone later mid t → IsGoingInRed later ks mid t
+  going_with later ks s mid t tuned numbering seen begins numbers in_time copies blocks memory typed inside edged run = record {
     tuned = tuned;
     numbers = subst (λ (n : Numbering). AllNumbered l.c.first n ks) (sym numbering) numbers;
     in_time = timely_same l ks s mid seen begins in_time;
@@ -210,6 +277,7 @@ module _ (l : RedSide) (alone : l.again ≡ None) (unpaired : l.kinds.retransmis
     typed = typed;
     inside = inside;
     run = run;
+    edged = edged;
   }
 
   -- other wait limits
@@ -217,7 +285,7 @@ module _ (l : RedSide) (alone : l.again ≡ None) (unpaired : l.kinds.retransmis
       → IsGoingInRed later ks (record s { packets = record s.packets { wait_limits = limits } }) t
   going_waits limits later ks s t g =
       let mid : Receiver = record s { packets = record s.packets { wait_limits = limits } } in
-      going_with later ks s mid t (tuned_same s mid refl refl refl refl refl refl refl refl refl g.tuned) refl refl refl g.numbers g.in_time g.copies g.blocks g.memory g.typed g.inside
+      going_with later ks s mid t (tuned_same s mid refl refl refl refl refl refl refl refl refl g.tuned) refl refl refl g.numbers g.in_time g.copies g.blocks g.memory g.typed g.inside (edged_next (waits limits) later g.edged tt)
       (subst (λ (x : Receiver). RunsAlone later x t) g.run.1 g.run.2)
 
   -- another `max_wait`
@@ -225,14 +293,14 @@ module _ (l : RedSide) (alone : l.again ≡ None) (unpaired : l.kinds.retransmis
       → IsGoingInRed later ks (record s { packets = record s.packets { wait_limits = record s.packets.wait_limits { max_wait = Some wait } } }) t
   going_follows wait later ks s t g =
       let mid : Receiver = record s { packets = record s.packets { wait_limits = record s.packets.wait_limits { max_wait = Some wait } } } in
-      going_with later ks s mid t (tuned_same s mid refl refl refl refl refl refl refl refl refl g.tuned) refl refl refl g.numbers g.in_time g.copies g.blocks g.memory g.typed g.inside
+      going_with later ks s mid t (tuned_same s mid refl refl refl refl refl refl refl refl refl g.tuned) refl refl refl g.numbers g.in_time g.copies g.blocks g.memory g.typed g.inside (edged_next (follows wait) later g.edged tt)
       (subst (λ (x : Receiver). RunsAlone later x t) g.run.1 g.run.2)
 
   -- a report
   pub going_reports : (later : List ReceiverCall) (ks : List ℕ) (s t : Receiver) → IsGoingInRed (reports ∷ later) ks s t → IsGoingInRed later ks (record s { reception = reported s.reception }) t
   going_reports later ks s t g =
       let mid : Receiver = record s { reception = reported s.reception } in
-      going_with later ks s mid t (tuned_same s mid refl refl refl refl refl refl refl refl refl g.tuned) refl refl refl g.numbers g.in_time g.copies g.blocks g.memory g.typed g.inside
+      going_with later ks s mid t (tuned_same s mid refl refl refl refl refl refl refl refl refl g.tuned) refl refl refl g.numbers g.in_time g.copies g.blocks g.memory g.typed g.inside (edged_next reports later g.edged tt)
       (subst (λ (x : Receiver). RunsAlone later x t) g.run.1 g.run.2)
 
   -- a pair, which is none
@@ -242,8 +310,27 @@ module _ (l : RedSide) (alone : l.again ≡ None) (unpaired : l.kinds.retransmis
       let mid : Receiver = record s { stream = record s.stream { retransmission = r } } in
       let none : s.stream.retransmission ≡ None = ap (λ (x : Kinds). x.retransmission) g.tuned.kinds_are ∙ unpaired in
       let kinds : mid.stream ≡ s.stream = ap (λ (o : Option Retransmission). record s.stream { retransmission = o }) (no_pair r g.typed.0 ∙ sym none) in
-      going_with later ks s mid t (tuned_same s mid kinds refl refl refl refl refl refl refl refl g.tuned) refl refl refl g.numbers g.in_time g.copies g.blocks g.memory g.typed.1 g.inside
+      going_with later ks s mid t (tuned_same s mid kinds refl refl refl refl refl refl refl refl g.tuned) refl refl refl g.numbers g.in_time g.copies g.blocks g.memory g.typed.1 g.inside (edged_next (pairs r) later g.edged tt)
       (subst (λ (x : Receiver). RunsAlone later x t) g.run.1 g.run.2)
+
+  -- the edges follow a datagram: they note nothing
+  pub going_notes : (e : EdgesCall) (later : List ReceiverCall) (ks : List ℕ) (s t : Receiver) → IsGoingInRed (notes e ∷ later) ks s t → IsGoingInRed later ks s t
+  going_notes e later ks s t g =
+      let here : (index : ℕ) × (slice_get l.written index ≡ Some e.bytes) = subst IsWritten g.edged.each.0 g.edged.here in
+      let follows : FollowsEdges rules e.bytes e.received e.before s e.after g.run.0 = subst (λ (k : EdgeRules). FollowsEdges k e.bytes e.received e.before s e.after g.run.0) g.edged.edged.0.0 g.run.1 in
+      let still : g.run.0 ≡ s = plain_still rules e.bytes e.received e.before s e.after g.run.0 (λ ssrc m is. says_nothing e.bytes here.0 ssrc m here.1 is) follows in
+      record {
+        tuned = g.tuned;
+        numbers = g.numbers;
+        in_time = g.in_time;
+        copies = g.copies;
+        blocks = g.blocks;
+        memory = g.memory;
+        typed = g.typed;
+        inside = g.inside;
+        run = subst (λ (x : Receiver). RunsAlone later x t) still g.run.2;
+        edged = edged_next (notes e) later g.edged tt;
+      }
 
   -- the calls are a course of the buffer
 
@@ -279,4 +366,5 @@ module _ (l : RedSide) (alone : l.again ≡ None) (unpaired : l.kinds.retransmis
   red_calls (follows wait ∷ later) ks s t g =
       red_calls later ks (record s { packets = record s.packets { wait_limits = record s.packets.wait_limits { max_wait = Some wait } } }) t (going_follows wait later ks s t g)
   red_calls (reports ∷ later) ks s t g = red_calls later ks (record s { reception = reported s.reception }) t (going_reports later ks s t g)
+  red_calls (notes e ∷ later) ks s t g = red_calls later ks s t (going_notes e later ks s t g)
   red_calls (pairs r ∷ later) ks s t g = red_calls later ks (record s { stream = record s.stream { retransmission = r } }) t (going_pairs r later ks s t g)

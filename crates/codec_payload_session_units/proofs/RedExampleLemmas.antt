@@ -10,6 +10,7 @@ use Rattle.codec_payload_red.specs.RedRun.{IsRecoverable}
 use Rattle.codec_payload_session_formats.specs.declared.formats.SessionSettings.{SessionSettings}
 use Rattle.codec_payload_session_units.specs.OneRedSender.{IsRedSenderFor}
 use Rattle.codec_payload_session_units.specs.RedExample.{RedStreamCanBeMet, red_format}
+use Rattle.codec_payload_session_units.proofs.PlainLemmas.{sends_plain}
 
 red_sender_for : (settings : SessionSettings) → settings.from_keyframe ≡ modes.Mark → IsRedSenderFor settings 7 red_format opus_sender red_writer red_used
 red_sender_for settings mode = record {
@@ -55,6 +56,7 @@ red_can_be_met settings mode sent are r1 r2 r3 = record {
     sends = are.sends;
     writes = are.writes;
     few = lit< tt;
+    undescribed = sends_plain settings.dependency_descriptor frames_sent opus_sender one_each (sent.first ∷ sent.second ∷ sent.third ∷ []) (λ values. refl) are.sends;
     sender_for = red_sender_for settings mode;
     readable = (refl, (refl, (refl, tt)));
     recoverable = subst (IsRecoverable red_writer.red (record { primary_pt = 111 % 128; step = 960 }) red_writer.budget) (sym are.entries) recoverable;

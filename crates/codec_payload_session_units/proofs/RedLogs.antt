@@ -40,10 +40,12 @@ use Rattle.codec_payload_receiver.specs.Pops.{answer_of}
 use Rattle.codec_payload_receiver.specs.declared.pops.Popped.{Popped}
 use Rattle.codec_payload_receiver.specs.declared.receiver.ReceiveError.{ReceiveError}
 use Rattle.codec_payload_session_stream.specs.Streams.{is_no_memory}
-use Rattle.codec_payload_session_runs.specs.Lives.{ReceiverCall, finishes, follows, pairs, pops, receives, reports, waits, with_shown}
-use Rattle.codec_payload_session_units.specs.OneSender.{answers_by, effective, steps_by}
+use Rattle.codec_payload_session_runs.specs.Lives.{ReceiverCall, finishes, follows, pairs, pops, receives, reports, waits, with_shown, notes}
+use Rattle.codec_payload_session_units.specs.OneSender.{answers_by, effective, steps_by, AreUndescribed}
 use Rattle.codec_payload_session_units.specs.RedStreamLogs.{IsLogInRed}
-use Rattle.codec_payload_session_units.proofs.RedCalls.{IsGoingInRed, Taken, going_ended, going_follows, going_lost, going_pairs, going_popped, going_received, going_reports, going_waits}
+use Rattle.codec_payload_stream_edges.specs.Brought.{edge_by}
+use Rattle.codec_payload_stream_edges.specs.declared.rules.EdgeRules.{EdgeRules}
+use Rattle.codec_payload_session_units.proofs.RedCalls.{IsGoingInRed, Taken, going_ended, going_follows, going_lost, going_pairs, going_popped, going_received, going_reports, going_waits, going_notes}
 
 -- A log as a chain
 
@@ -80,7 +82,8 @@ turn_drops c from s t passed a n ready (inr is) dropped = pop_drops c from (reco
 
 -- The log of a receiver
 
-module _ (l : RedSide) (alone : l.again ≡ None) (unpaired : l.kinds.retransmission ≡ None) (jump : ℕ) (turn : most l jump * l.red.receiver.step ≤ 2 ^ 32)
+module _ (l : RedSide) (alone : l.again ≡ None) (unpaired : l.kinds.retransmission ≡ None) (rules : EdgeRules)
+    (silent : (marker : Bool) (bytes : List ℕ) → edge_by rules.codec marker bytes ≡ None) (plain : AreUndescribed rules.descriptor l.written) (jump : ℕ) (turn : most l jump * l.red.receiver.step ≤ 2 ^ 32)
     (Pushes : ℕ → ℕ → Ticks → DepacketizerState → List Held → Type 0)
     (gives : (highest carrier : ℕ) (now : Ticks) (d : DepacketizerState) (ps : List Held) → AreBrought l jump turn highest carrier now d ps
     → ((j : ℕ) (q : Packet) → slice_get (packets_of l.c.units) j ≡ Some q → IsBroughtBy l.writer l.datagrams l.backward highest carrier j → has_number q.number ps ≡ true)
@@ -166,7 +169,7 @@ module _ (l : RedSide) (alone : l.again ≡ None) (unpaired : l.kinds.retransmis
 
   -- the calls, from this receiver on
   pub record IsLogging (later : List ReceiverCall) (ks : List ℕ) (highest from : ℕ) (s t : Receiver) : Type 0 where
-    pub going : IsGoingInRed l alone unpaired later ks s t
+    pub going : IsGoingInRed l alone unpaired rules silent plain later ks s t
     pub placed : IsPlaced highest s ks
     pub none : s.packets.no_media_numbers ≡ []
     pub ready : IsReady l.c from s.packets.buffer
@@ -178,7 +181,7 @@ module _ (l : RedSide) (alone : l.again ≡ None) (unpaired : l.kinds.retransmis
   Next later t = (ks : List ℕ) (highest from : ℕ) (s : Receiver) → IsLogging later ks highest from s t → Logs (steps_by (effective later) ks) (answers_by later) highest s t
 
   log_taken : (now : Ticks) (bytes : List ℕ) (answer : Result Outcome ReceiveError) (later : List ReceiverCall) (ks : List ℕ) (highest from : ℕ) (s t : Receiver) → Next later t
-      → Tuned l s → s.packets.no_media_numbers ≡ [] → IsReady l.c from s.packets.buffer → IsPlaced highest s ks → Taken l alone unpaired now bytes answer later ks s t
+      → Tuned l s → s.packets.no_media_numbers ≡ [] → IsReady l.c from s.packets.buffer → IsPlaced highest s ks → Taken l alone unpaired rules silent plain now bytes answer later ks s t
       → Logs (steps_by (receives now bytes answer ∷ effective later) ks) (answers_by later) highest s t
   log_taken now bytes answer later [] highest from s t go tuned none ready placed taken w is = absurd taken
   log_taken now bytes answer later (k ∷ ks) highest from s t go tuned none ready placed taken w is =
@@ -210,14 +213,14 @@ module _ (l : RedSide) (alone : l.again ≡ None) (unpaired : l.kinds.retransmis
       → is_no_memory answer ≡ lost → IsLogging (receives now bytes answer ∷ later) ks highest from s t
       → Logs (steps_by (with_shown (not lost) (receives now bytes answer) (effective later)) ks) (answers_by later) highest s t
   log_received false now bytes answer later ks highest from s t go is g =
-      log_taken now bytes answer later ks highest from s t go g.going.tuned g.none g.ready g.placed (going_received l alone unpaired now bytes answer later ks s t is g.going)
+      log_taken now bytes answer later ks highest from s t go g.going.tuned g.none g.ready g.placed (going_received l alone unpaired rules silent plain now bytes answer later ks s t is g.going)
   log_received true now bytes answer later ks highest from s t go is g =
-      go ks highest from s (record { going = going_lost l alone unpaired now bytes answer later ks s t is g.going; placed = g.placed; none = g.none; ready = g.ready })
+      go ks highest from s (record { going = going_lost l alone unpaired rules silent plain now bytes answer later ks s t is g.going; placed = g.placed; none = g.none; ready = g.ready })
 
   log_asked : (now : Ticks) (answer : Option (Result (Popped Release) AllocError)) (later : List ReceiverCall) (ks : List ℕ) (highest from : ℕ) (s t : Receiver) → Next later t
       → IsLogging (pops now answer ∷ later) ks highest from s t → Logs (steps.Pop now ∷ steps_by (effective later) ks) (answer_of answer ∷ answers_by later) highest s t
   log_asked now answer later ks highest from s t go g w is =
-      let asked = going_popped l alone unpaired now answer later ks s t g.going in
+      let asked = going_popped l alone unpaired rules silent plain now answer later ks s t g.going in
       let a : Answer = answer_of answer in
       let mid : Receiver = asked.mid in
       let one = asked.one in
@@ -253,16 +256,18 @@ module _ (l : RedSide) (alone : l.again ≡ None) (unpaired : l.kinds.retransmis
       log_received (is_no_memory answer) now bytes answer later ks highest from s t (λ more top low x. log_calls later more top low x t) refl g
   log_calls (pops now answer ∷ later) ks highest from s t g = log_asked now answer later ks highest from s t (λ more top low x. log_calls later more top low x t) g
   log_calls (finishes ∷ later) ks highest from s t g = λ w is.
-      let rest = log_calls later ks highest from (ended s) t (record { going = going_ended l alone unpaired later ks s t g.going; placed = g.placed; none = g.none; ready = g.ready }) w is in
+      let rest = log_calls later ks highest from (ended s) t (record { going = going_ended l alone unpaired rules silent plain later ks s t g.going; placed = g.placed; none = g.none; ready = g.ready }) w is in
       record { turns = rest.turns; end = rest.end; is_log = rest.is_log; answers_are = rest.answers_are; left = rest.left }
   log_calls (waits limits ∷ later) ks highest from s t g =
       log_calls later ks highest from (record s { packets = record s.packets { wait_limits = limits } }) t
-      (record { going = going_waits l alone unpaired limits later ks s t g.going; placed = g.placed; none = g.none; ready = g.ready })
+      (record { going = going_waits l alone unpaired rules silent plain limits later ks s t g.going; placed = g.placed; none = g.none; ready = g.ready })
   log_calls (follows wait ∷ later) ks highest from s t g =
       log_calls later ks highest from (record s { packets = record s.packets { wait_limits = record s.packets.wait_limits { max_wait = Some wait } } }) t
-      (record { going = going_follows l alone unpaired wait later ks s t g.going; placed = g.placed; none = g.none; ready = g.ready })
+      (record { going = going_follows l alone unpaired rules silent plain wait later ks s t g.going; placed = g.placed; none = g.none; ready = g.ready })
   log_calls (reports ∷ later) ks highest from s t g =
-      log_calls later ks highest from (record s { reception = reported s.reception }) t (record { going = going_reports l alone unpaired later ks s t g.going; placed = g.placed; none = g.none; ready = g.ready })
+      log_calls later ks highest from (record s { reception = reported s.reception }) t (record { going = going_reports l alone unpaired rules silent plain later ks s t g.going; placed = g.placed; none = g.none; ready = g.ready })
+  log_calls (notes e ∷ later) ks highest from s t g =
+      log_calls later ks highest from s t (record { going = going_notes l alone unpaired rules silent plain e later ks s t g.going; placed = g.placed; none = g.none; ready = g.ready })
   log_calls (pairs r ∷ later) ks highest from s t g =
       log_calls later ks highest from (record s { stream = record s.stream { retransmission = r } }) t
-      (record { going = going_pairs l alone unpaired r later ks s t g.going; placed = g.placed; none = g.none; ready = g.ready })
+      (record { going = going_pairs l alone unpaired rules silent plain r later ks s t g.going; placed = g.placed; none = g.none; ready = g.ready })

@@ -6,8 +6,8 @@ use Rattle.codec_payload_base.specs.declared.wire.Ticks.{Ticks}
 use Rattle.codec_payload_buffer.proofs.MemberLemmas.{IsIn, contains_in, in_contains}
 use Rattle.codec_payload_buffer.specs.Held.{Held, has_number}
 use Rattle.codec_payload_codec.proofs.CodecLemmas.{codec_payloads, marker_free}
-use Rattle.codec_payload_codec.specs.Depacketizers.{DepacketizerKind, DepacketizerState, configured_depacketizer, is_built_in_depacketizer, is_codec, kind_of_depacketizer}
-use Rattle.codec_payload_codec.specs.Packetizers.{PacketizerState, Vp9Packetizing, is_video, may_split, payloads_by}
+use Rattle.codec_payload_codec.specs.Depacketizers.{DepacketizerKind, DepacketizerState, configured_depacketizer, is_built_in_depacketizer, is_codec, kind_of_depacketizer, depacketizer_state_for}
+use Rattle.codec_payload_codec.specs.Packetizers.{PacketizerState, Vp9Packetizing, is_video, may_split, payloads_by, facts_of}
 use Rattle.codec_payload_metadata.specs.declared.meta.RtpMeta.{RtpMeta}
 use Rattle.codec_payload_buffer_runs.proofs.order.RunSettings.{fresh, ready, setting, tracked}
 use Rattle.codec_payload_buffer_runs.proofs.order.SafetyLemmas.{SendsAll as SendsPackets, all_end, sends_all}
@@ -59,22 +59,29 @@ use Rattle.codec_payload_session_formats.specs.declared.formats.SessionSettings.
 use Rattle.codec_payload_session_stream.specs.Streams.{Begins}
 use Rattle.codec_payload_session_stream.specs.declared.stream.StreamState.{StreamState}
 use Rattle.codec_payload_session_runs.proofs.ReachedLemmas.{runs_split}
-use Rattle.codec_payload_session_runs.specs.Lives.{IsAlone, ReceiverCall, RunsAlone, events_of, finishes, follows, pairs, pops, receives, reports, shown, waits, waits_for, with_shown}
+use Rattle.codec_payload_session_runs.specs.Lives.{IsAlone, ReceiverCall, RunsAlone, events_of, finishes, follows, pairs, pops, receives, reports, shown, waits, waits_for, with_shown, notes, EdgesRun, FollowEach}
 use Rattle.codec_payload_session_runs.specs.SessionRuns.{Call, Runs}
 use Rattle.codec_payload_session_stream.specs.Streams.{is_no_memory}
 use Rattle.codec_payload_jitter.specs.declared.outcome.Outcome.{Outcome}
 use Rattle.codec_payload_receiver.specs.declared.receiver.ReceiveError.{ReceiveError}
 use Rattle.codec_payload_session_units.specs.OneRedSender.{FoundBlocks, IsGivenInRed, IsOneRedSenders, RedStreamsReleaseUnits, ReleasesUnitsInRed}
 use Rattle.codec_payload_session_units.specs.RedStreamLogs.{KeepsRedPromises, PushesWhole, RedStreamLog, RedStreamsKeepPromises, backward_of}
-use Rattle.codec_payload_session_units.specs.OneSender.{FoundMemory, answers_by, effective, sends_of, steps_by}
+use Rattle.codec_payload_session_units.specs.OneSender.{FoundMemory, answers_by, effective, sends_of, steps_by, AreUndescribed}
 use Rattle.codec_payload_session_units.specs.StreamUnits.{answered, units_told}
 use Rattle.codec_payload_session_units.proofs.BeginLemmas.{nothing_read}
 use Rattle.codec_payload_session_units.proofs.CallEvents.{AllTyped}
+use Rattle.codec_payload_base.specs.declared.wire.Codec.{Codec}
+use Rattle.codec_payload_base.specs.declared.wire.Codec.TheVariants as codecs
+use Rattle.codec_payload_session_requests.specs.Named.{rules_for}
+use Rattle.codec_payload_stream_edges.specs.Brought.{edge_by}
+use Rattle.codec_payload_stream_edges.specs.declared.followed.Followed.{Followed}
+use Rattle.codec_payload_stream_edges.specs.declared.rules.EdgeRules.{EdgeRules}
+use Rattle.codec_payload_session_units.proofs.PlainLemmas.{written_plain}
 use Rattle.codec_payload_session_units.proofs.RedCalls.{IsGoingInRed, red_calls}
 use Rattle.codec_payload_session_units.proofs.RedLogs.{HasLogInRed, IsPlaced, chained_in_red, log_calls}
 use Rattle.codec_payload_session_units.proofs.SentLemmas.{Sent, all_sent}
 use Rattle.codec_payload_session_units.proofs.ShownLemmas.{before_shown, copies_shown, delivery_shown, memory_shown, order_answered, shown_answers}
-use Rattle.codec_payload_session_units.proofs.TellLemmas.{projects_typed, run_told}
+use Rattle.codec_payload_session_units.proofs.TellLemmas.{projects_typed, run_told, projects_follow}
 use Rattle.codec_payload_session_units.proofs.UnitLemmas.{copies_below}
 
 blocks_if : (b : Bool) (now : Ticks) (bytes : List ℕ) (answer : Result Outcome ReceiveError) (xs ys : List ReceiverCall) → (FoundBlocks xs → FoundBlocks ys)
@@ -92,6 +99,7 @@ blocks_shown (waits limits ∷ cs) blocks = blocks_shown cs blocks
 blocks_shown (follows wait ∷ cs) blocks = blocks_shown cs blocks
 blocks_shown (pairs r ∷ cs) blocks = blocks_shown cs blocks
 blocks_shown (reports ∷ cs) blocks = blocks_shown cs blocks
+blocks_shown (notes e ∷ cs) blocks = blocks_shown cs blocks
 
 -- the windows leave room for blocks
 room_for_blocks : (b : Bool) → forward_for b + backward_for b + 8 ≤ 65536
@@ -107,6 +115,28 @@ has_no_ids packetizer none = refl
 each_pushes : (c : Setting) (ps : List Held) → ((p : Held) → IsIn p ps → IsPush c p) → ArePushes c ps
 each_pushes c [] each = tt
 each_pushes c (p ∷ ps) each = (each p (inl refl), each_pushes c ps (λ q is. each q (inr is)))
+
+-- packets of these codecs say nothing of pictures
+silent_codec : (octet : Bool) (rate : ℕ) (c : Codec) (p : PacketizerState)
+    → ((d : DepacketizerState) → depacketizer_state_for c ≡ Some d → kind_of_depacketizer (configured_depacketizer octet rate d) ≡ payloads_by p) → is_video p ≡ false
+    → (marker : Bool) (bytes : List ℕ) → edge_by c marker bytes ≡ None
+silent_codec octet rate codecs.Vp8 p alike none marker bytes = let video : true ≡ false = ap (λ (k : DepacketizerKind). (facts_of k).video) (alike _ refl) ∙ none in absurd (cc)
+silent_codec octet rate codecs.Vp9 p alike none marker bytes = let video : true ≡ false = ap (λ (k : DepacketizerKind). (facts_of k).video) (alike _ refl) ∙ none in absurd (cc)
+silent_codec octet rate codecs.Opus p alike none marker bytes = refl
+silent_codec octet rate codecs.PCMU p alike none marker bytes = refl
+silent_codec octet rate codecs.PCMA p alike none marker bytes = refl
+silent_codec octet rate codecs.G722 p alike none marker bytes = refl
+silent_codec octet rate codecs.CN p alike none marker bytes = refl
+silent_codec octet rate codecs.AmrWb p alike none marker bytes = refl
+silent_codec octet rate codecs.H264 p alike none marker bytes = refl
+silent_codec octet rate codecs.H265 p alike none marker bytes = refl
+silent_codec octet rate codecs.H266 p alike none marker bytes = refl
+silent_codec octet rate codecs.Av1 p alike none marker bytes = refl
+silent_codec octet rate codecs.Null p alike none marker bytes = refl
+silent_codec octet rate codecs.Tele p alike none marker bytes = refl
+silent_codec octet rate codecs.Rtx p alike none marker bytes = refl
+silent_codec octet rate codecs.Red p alike none marker bytes = refl
+silent_codec octet rate codecs.Unknown p alike none marker bytes = refl
 
 -- ---- what a stream in RED begins with
 
@@ -155,7 +185,8 @@ begun_in_red settings used ssrc f gave o s same b =
 -- ---- the theorem
 
 module _ (settings : SessionSettings) (ssrc : ℕ) (f : Format) (own : List ReceiverCall) (o : IsOneRedSenders settings ssrc f (shown own)) (r t : Receiver)
-    (b : HasBegunInRed settings f o r) (typed : AllTyped None own) (run : RunsAlone own r t) where
+    (b : HasBegunInRed settings f o r) (typed : AllTyped None own) (run : RunsAlone own r t) (each : FollowEach None own) (edges_after : Option Followed)
+    (edged : EdgesRun (rules_for f settings.dependency_descriptor) None own edges_after) where
   abbrev ks : List ℕ
   ks = o.indices
 
@@ -361,7 +392,16 @@ module _ (settings : SessionSettings) (ssrc : ℕ) (f : Format) (own : List Rece
   memory : FoundMemory (answers_by own)
   memory = memory_shown (answers_by own) (subst FoundMemory (shown_answers own) o.memory)
 
-  going : IsGoingInRed side refl unpaired own ks r t
+  abbrev rules : EdgeRules
+  rules = rules_for f settings.dependency_descriptor
+
+  silent : (marker : Bool) (bytes : List ℕ) → edge_by rules.codec marker bytes ≡ None
+  silent = silent_codec f.spec.octet_align f.spec.clock_rate f.spec.codec o.sender.packetizer o.sender_for.alike o.sender_for.no_video
+
+  plain : AreUndescribed rules.descriptor o.written
+  plain = written_plain settings.dependency_descriptor o.writer o.datagrams o.written o.after o.writes o.undescribed
+
+  going : IsGoingInRed side refl unpaired rules silent plain own ks r t
   going = record {
     tuned = tuned;
     numbers = numbers;
@@ -372,10 +412,11 @@ module _ (settings : SessionSettings) (ssrc : ℕ) (f : Format) (own : List Rece
     typed = typed;
     inside = λ k at is. delivery_shown own k at ks is;
     run = run;
+    edged = record { last = None; each = each; here = tt; edges = None; after = edges_after; edged = edged };
   }
 
   course : Course Known packets received r.packets.buffer (answers_by own) t.packets.buffer
-  course = red_calls side refl unpaired own ks r t going
+  course = red_calls side refl unpaired rules silent plain own ks r t going
 
   abbrev releases_units : ReleasesUnitsInRed o (answered (answers_by own))
   releases_units = record {
@@ -438,7 +479,7 @@ module _ (settings : SessionSettings) (ssrc : ℕ) (f : Format) (own : List Rece
       all = λ j q there brings. all j q there (subst (λ (n : ℕ). IsBroughtBy o.writer o.datagrams n highest carrier j) (sym b.backward) brings);
     }
 
-    placed : IsPlaced side refl unpaired jump in_turn.in_turn Pushes gives 0 r ks
+    placed : IsPlaced side refl unpaired rules silent plain jump in_turn.in_turn Pushes gives 0 r ks
     placed = inl (
       ap (λ (x : Receiver). x.packets.numbering.greatest) begun.is,
       refl,
@@ -446,8 +487,8 @@ module _ (settings : SessionSettings) (ssrc : ℕ) (f : Format) (own : List Rece
       in_turn.near,
     )
 
-    log : HasLogInRed side refl unpaired jump in_turn.in_turn Pushes gives r.packets.ended 0 received (runs.begun r.packets.buffer) (answers_by own) t.packets.buffer
-    log = log_calls side refl unpaired jump in_turn.in_turn Pushes gives own ks 0 0 r t (record {
+    log : HasLogInRed side refl unpaired rules silent plain jump in_turn.in_turn Pushes gives r.packets.ended 0 received (runs.begun r.packets.buffer) (answers_by own) t.packets.buffer
+    log = log_calls side refl unpaired rules silent plain jump in_turn.in_turn Pushes gives own ks 0 0 r t (record {
       going = going;
       placed = placed;
       none = ap (λ (x : Receiver). x.packets.no_media_numbers) begun.is;
@@ -480,17 +521,19 @@ red_units settings calls s run ssrc f announced r alone o =
     let own : List ReceiverCall = alone.own in
     let q : Receiver = alone.fresh.receiver in
     let typed : AllTyped f.retransmission own = projects_typed ssrc f (waits_for settings ssrc f) alone.during own alone.projects in
+    let each : FollowEach None own = projects_follow ssrc f (waits_for settings ssrc f) alone.during own alone.projects in
     subst (λ (answers : List Answer). ReleasesUnitsInRed o answers) (told_is settings calls s run ssrc f announced r alone)
     (subst (λ (gave : List ReceiverCall). (x : IsOneRedSenders settings ssrc f gave) → ReleasesUnitsInRed x (answered (answers_by own))) alone.shows
     (λ x. releases_in_red settings ssrc f own x q r (begun_in_red settings alone.reached.settings ssrc f (shown own) x alone.fresh alone.pairs_alone alone.begins)
-    (subst (λ (t : Option ℕ). AllTyped t own) x.sender_for.no_retransmissions typed) alone.alone) o)
+    (subst (λ (t : Option ℕ). AllTyped t own) x.sender_for.no_retransmissions typed) alone.alone each alone.edges alone.edged) o)
 
 pub red_promises : RedStreamsKeepPromises
 red_promises settings calls s run ssrc f announced r alone o stays =
     let own : List ReceiverCall = alone.own in
     let q : Receiver = alone.fresh.receiver in
     let typed : AllTyped f.retransmission own = projects_typed ssrc f (waits_for settings ssrc f) alone.during own alone.projects in
+    let each : FollowEach None own = projects_follow ssrc f (waits_for settings ssrc f) alone.during own alone.projects in
     subst (λ (answers : List Answer). KeepsRedPromises o answers own q r) (told_is settings calls s run ssrc f announced r alone)
     (subst (λ (gave : List ReceiverCall). (x : IsOneRedSenders settings ssrc f gave) → StaysInTurn x.red.step (backward_of f) x.indices → KeepsRedPromises x (answered (answers_by own)) own q r) alone.shows
     (λ x near. keeps_in_red settings ssrc f own x q r (begun_in_red settings alone.reached.settings ssrc f (shown own) x alone.fresh alone.pairs_alone alone.begins)
-    (subst (λ (t : Option ℕ). AllTyped t own) x.sender_for.no_retransmissions typed) alone.alone near) o stays)
+    (subst (λ (t : Option ℕ). AllTyped t own) x.sender_for.no_retransmissions typed) alone.alone each alone.edges alone.edged near) o stays)

@@ -19,7 +19,7 @@ use Rattle.codec_payload_receiver.specs.declared.pops.Popped.TheVariants as popp
 use Rattle.codec_payload_receiver.specs.declared.receiver.ReceiveError.{ReceiveError}
 use Rattle.codec_payload_sending_history.specs.declared.retransmission.RetransmissionStream.{RetransmissionStream}
 use Rattle.codec_payload_session_stream.specs.Streams.{is_no_memory}
-use Rattle.codec_payload_session_runs.specs.Lives.{ReceiverCall, finishes, follows, pairs, pops, receives, reports, shown, waits, with_shown}
+use Rattle.codec_payload_session_runs.specs.Lives.{ReceiverCall, finishes, follows, pairs, pops, receives, reports, shown, waits, with_shown, notes}
 use Rattle.codec_payload_session_units.specs.OneSender.{AreCopies, FoundMemory, answers_by, effective, steps_by}
 use Rattle.codec_payload_session_units.specs.StreamUnits.{answered}
 
@@ -43,6 +43,7 @@ copies_shown again ds (waits limits ∷ cs) ks copies = copies_shown again ds cs
 copies_shown again ds (follows wait ∷ cs) ks copies = copies_shown again ds cs ks copies
 copies_shown again ds (pairs r ∷ cs) ks copies = copies_shown again ds cs ks copies
 copies_shown again ds (reports ∷ cs) ks copies = copies_shown again ds cs ks copies
+copies_shown again ds (notes e ∷ cs) ks copies = copies_shown again ds cs ks copies
 
 -- ---- answers
 
@@ -66,6 +67,7 @@ shown_answers (waits limits ∷ cs) = shown_answers cs
 shown_answers (follows wait ∷ cs) = shown_answers cs
 shown_answers (pairs r ∷ cs) = shown_answers cs
 shown_answers (reports ∷ cs) = shown_answers cs
+shown_answers (notes e ∷ cs) = shown_answers cs
 
 pub memory_shown : (answers : List Answer) → FoundMemory (answered answers) → FoundMemory answers
 memory_shown [] memory = tt
@@ -104,6 +106,7 @@ before_shown (waits limits ∷ cs) before ks had = before_shown cs before ks had
 before_shown (follows wait ∷ cs) before ks had = before_shown cs before ks had
 before_shown (pairs r ∷ cs) before ks had = before_shown cs before ks had
 before_shown (reports ∷ cs) before ks had = before_shown cs before ks had
+before_shown (notes e ∷ cs) before ks had = before_shown cs before ks had
 
 -- each delivery is shown
 among_if : (b : Bool) (step : DatagramStep) (now : Ticks) (bytes : List ℕ) (answer : Result Outcome ReceiveError) (xs ys : List ReceiverCall) (ks : List ℕ)
@@ -128,3 +131,4 @@ delivery_shown (waits limits ∷ cs) k at ks is = delivery_shown cs k at ks is
 delivery_shown (follows wait ∷ cs) k at ks is = delivery_shown cs k at ks is
 delivery_shown (pairs r ∷ cs) k at ks is = delivery_shown cs k at ks is
 delivery_shown (reports ∷ cs) k at ks is = delivery_shown cs k at ks is
+delivery_shown (notes e ∷ cs) k at ks is = delivery_shown cs k at ks is

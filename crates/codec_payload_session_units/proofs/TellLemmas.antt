@@ -15,13 +15,14 @@ use Rattle.codec_payload_session_stream.specs.Units.{Event}
 use Rattle.codec_payload_session_stream.specs.declared.arrival.Arrival.{Arrival}
 use Rattle.codec_payload_session_stream.specs.declared.arrival.Arrival.TheVariants as arrivals
 use Rattle.codec_payload_session_stream.specs.declared.events.Event.TheVariants as events
-use Rattle.codec_payload_session_runs.specs.Lives.{AreMadeBy, FollowedWaits, IsMadeAs, Projects, ReceiverCall, events_by, events_in, events_of, finishes, follows, given_by, is_same, one_call, one_event, pairs, pops, receives, released_by, reports, shown_by, shown_in, shown_of, unit_or_memory, waits}
+use Rattle.codec_payload_session_runs.specs.Lives.{AreMadeBy, FollowedWaits, IsMadeAs, Projects, ReceiverCall, events_by, events_in, events_of, finishes, follows, given_by, is_same, one_call, one_event, pairs, pops, receives, released_by, reports, shown_by, shown_in, shown_of, unit_or_memory, waits, notes, FollowEach}
 use Rattle.codec_payload_session_runs.specs.SessionRuns.{Call, Does, Runs}
 use Rattle.codec_payload_session_runs.specs.declared.run.SessionStep.{SessionStep}
 use Rattle.codec_payload_session_runs.specs.declared.run.SessionStep.TheVariants as calls
 use Rattle.codec_payload_session_runs.specs.declared.run.StepAnswer.{StepAnswer}
 use Rattle.codec_payload_session_units.specs.OneSender.{answers_by}
 use Rattle.codec_payload_session_units.specs.StreamUnits.{units_told}
+use Rattle.codec_payload_session_runs.proofs.AloneLemmas.{each_append}
 use Rattle.codec_payload_session_units.proofs.CallEvents.{AllTyped}
 use Rattle.codec_payload_session_units.proofs.CopyLemmas.{HasType}
 
@@ -36,6 +37,7 @@ answers_append (waits limits ∷ xs) ys = answers_append xs ys
 answers_append (follows wait ∷ xs) ys = answers_append xs ys
 answers_append (pairs r ∷ xs) ys = answers_append xs ys
 answers_append (reports ∷ xs) ys = answers_append xs ys
+answers_append (notes e ∷ xs) ys = answers_append xs ys
 
 told_append : (es fs : List Event) → units_told (es ++ fs) ≡ units_told es ++ units_told fs
 told_append [] fs = refl
@@ -127,6 +129,7 @@ typed_append own (waits limits ∷ xs) ys a b = typed_append own xs ys a b
 typed_append own (follows wait ∷ xs) ys a b = typed_append own xs ys a b
 typed_append own (pairs r ∷ xs) ys a b = (a.0, typed_append own xs ys a.1 b)
 typed_append own (reports ∷ xs) ys a b = typed_append own xs ys a b
+typed_append own (notes e ∷ xs) ys a b = typed_append own xs ys a b
 
 pair_typed : (ssrc : ℕ) (f : Format) (w : FollowedWaits) (step : SessionStep) (answer : StepAnswer) (given : List ReceiverCall) (r : Option Retransmission)
     → IsMadeAs ssrc f w step answer given (pairs r) → HasType f.retransmission r
@@ -153,9 +156,16 @@ part_typed ssrc f w c (waits limits ∷ part) made = part_typed ssrc f w c part 
 part_typed ssrc f w c (follows wait ∷ part) made = part_typed ssrc f w c part made.1
 part_typed ssrc f w c (pairs r ∷ part) made = (pair_typed ssrc f w c.step c.answer (shown_in ssrc f.payload_type c) r made.0, part_typed ssrc f w c part made.1)
 part_typed ssrc f w c (reports ∷ part) made = part_typed ssrc f w c part made.1
+part_typed ssrc f w c (notes e ∷ part) made = part_typed ssrc f w c part made.1
 
 pub projects_typed : (ssrc : ℕ) (f : Format) (w : FollowedWaits) (cs : List Call) (own : List ReceiverCall) → Projects ssrc f w cs own → AllTyped f.retransmission own
 projects_typed ssrc f w [] own got = subst (AllTyped f.retransmission) (sym got) tt
 projects_typed ssrc f w (c ∷ cs) own got =
     subst (AllTyped f.retransmission) (sym got.2)
     (typed_append f.retransmission got.0 got.1 (part_typed ssrc f w c got.0 got.3.made) (projects_typed ssrc f w cs got.1 got.4))
+
+-- each datagram that the receiver got is followed by its edges, right behind its receipt
+pub projects_follow : (ssrc : ℕ) (f : Format) (w : FollowedWaits) (cs : List Call) (own : List ReceiverCall) → Projects ssrc f w cs own → FollowEach None own
+projects_follow ssrc f w [] own got = subst (FollowEach None) (sym got) refl
+projects_follow ssrc f w (c ∷ cs) own got =
+    subst (FollowEach None) (sym got.2) (each_append None got.0 got.1 got.3.follow_each (projects_follow ssrc f w cs got.1 got.4))

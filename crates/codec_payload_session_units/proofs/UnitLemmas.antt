@@ -1,5 +1,5 @@
 -- The units of a stream are its sender's: what the sender sends, what the receiver gets, and the theorem of the buffer.
-use Rattle.std.proofs.Common.{◌≡◌, ◌≢◌, ◌∙◌, refl, sym, ap, subst, ℕ, ◌+◌, ◌-◌, ◌%◌, ◌<◌, List, [], ◌∷◌, false, Bool, Option, None, Some, length, arith}
+use Rattle.std.proofs.Common.{◌≡◌, ◌≢◌, ◌∙◌, refl, sym, ap, subst, ℕ, ◌+◌, ◌-◌, ◌%◌, ◌<◌, List, [], ◌∷◌, false, Bool, Option, None, Some, length, arith, lit<, true, ◌^◌}
 use Rattle.std.proofs.lemmas.Option.{slice_get_within}
 use Rattle.codec_payload_buffer.proofs.MemberLemmas.{contains_in}
 use Rattle.codec_payload_codec.specs.Depacketizers.{DepacketizerKind, DepacketizerState, is_built_in_depacketizer, is_codec, tail_in}
@@ -42,12 +42,20 @@ use Rattle.codec_payload_datagram_runs.specs.Releases.{AreDatagrams, AreOfOneStr
 use Rattle.codec_payload_datagram_runs.specs.declared.run.DatagramStep.{DatagramStep}
 use Rattle.codec_payload_datagram_runs.specs.declared.run.DatagramStep.TheVariants as steps
 use Rattle.codec_payload_sending_history.specs.declared.retransmission.RetransmissionStream.{RetransmissionStream}
-use Rattle.codec_payload_session_formats.specs.Formats.{forward_for, is_video as is_of_video}
+use Rattle.codec_payload_session_formats.specs.Formats.{forward_for, is_video as is_of_video, backward_for}
 use Rattle.codec_payload_session_formats.specs.declared.formats.Format.{Format}
 use Rattle.codec_payload_session_formats.specs.declared.formats.SessionSettings.{SessionSettings}
-use Rattle.codec_payload_session_runs.specs.Lives.{ReceiverCall, RunsAlone, finishes, follows, pairs, pops, receives, reports, shown, waits}
+use Rattle.codec_payload_session_runs.specs.Lives.{ReceiverCall, RunsAlone, finishes, follows, pairs, pops, receives, reports, shown, waits, notes, EdgesRun, FollowEach}
 use Rattle.codec_payload_session_units.specs.OneSender.{AreApartFrom, AreCopies, FoundMemory, IsOneSenders, answers_by, effective, sends_of, steps_by}
 use Rattle.codec_payload_session_units.specs.StreamUnits.{IsGivenOf, IsLogOfStream, KeepsPromises, ReleasesUnits, StreamLog, answered}
+use Rattle.codec_payload_edges.specs.OwnSenders.{Vp8SendsInOrder, Vp9SendsInOrder}
+use Rattle.codec_payload_edges.specs.Senders.{FindsNothing}
+use Rattle.codec_payload_receiver.specs.declared.receiver.RedSettings.{RedSettings}
+use Rattle.codec_payload_session_requests.specs.Named.{rules_for}
+use Rattle.codec_payload_stream_edges.specs.Brought.{type_of_red_again}
+use Rattle.codec_payload_stream_edges.specs.declared.followed.Followed.{Followed}
+use Rattle.codec_payload_stream_edges.specs.declared.rules.EdgeRules.{EdgeRules}
+use Rattle.codec_payload_session_units.proofs.ShowLemmas.{IsFollowed, is_followed}
 use Rattle.codec_payload_session_units.proofs.BeginLemmas.{IsGiven}
 use Rattle.codec_payload_session_units.proofs.CallEvents.{AllTyped, HasLogOf, IsMetBy, met_calls}
 use Rattle.codec_payload_session_units.proofs.CopyLemmas.{IsStream}
@@ -66,13 +74,20 @@ copies_below again ds (waits limits ∷ calls) ks copies = copies_below again ds
 copies_below again ds (follows wait ∷ calls) ks copies = copies_below again ds calls ks copies
 copies_below again ds (pairs r ∷ calls) ks copies = copies_below again ds calls ks copies
 copies_below again ds (reports ∷ calls) ks copies = copies_below again ds calls ks copies
+copies_below again ds (notes e ∷ calls) ks copies = copies_below again ds calls ks copies
+
+small_window : (b : Bool) → backward_for b < 32768
+small_window true = lit< tt
+small_window false = lit< tt
 
 all_timed : (first : ℕ) (packets : List Packet) (ks : List ℕ) → AllTimed (times_from first packets) first packets ks
 all_timed first packets [] = tt
 all_timed first packets (k ∷ ks) = let place : k ≡ first + k - first = omega arith in (ap (time_in packets) place, all_timed first packets ks)
 
 module _ (settings : SessionSettings) (ssrc : ℕ) (f : Format) (own : List ReceiverCall) (o : IsOneSenders settings ssrc f (shown own)) (r t : Receiver) (given : Settings) (depacketizer : DepacketizerState)
-    (is : IsGiven settings f given depacketizer r) (one_stream : AreOfOneStream o.sender given depacketizer) (typed : AllTyped f.retransmission own) (run : RunsAlone own r t) where
+    (is : IsGiven settings f given depacketizer r) (one_stream : AreOfOneStream o.sender given depacketizer) (typed : AllTyped f.retransmission own) (run : RunsAlone own r t)
+    (finds_none : FindsNothing) (vp8 : Vp8SendsInOrder) (vp9 : Vp9SendsInOrder) (each : FollowEach None own) (edges_after : Option Followed)
+    (edged : EdgesRun (rules_for f settings.dependency_descriptor) None own edges_after) where
   abbrev ks : List ℕ
   ks = o.indices
 
@@ -151,8 +166,23 @@ module _ (settings : SessionSettings) (ssrc : ℕ) (f : Format) (own : List Rece
   memory : FoundMemory (answers_by own)
   memory = memory_shown (answers_by own) (subst FoundMemory (shown_answers own) o.memory)
 
+  few : first + length o.datagrams < 2 ^ 64
+  few = omega (arith, o.few, first_small given.forward given.backward number ks low within)
+
+  abbrev rules : EdgeRules
+  rules = rules_for f settings.dependency_descriptor
+
+  no_red_again : rules.red_again ≡ None
+  no_red_again = ap (λ (x : Option RedSettings). type_of_red_again x) o.sender_for.no_red
+
+  followed : IsFollowed finds_none rules o.again o.sender.stream first o.datagrams
+  followed = is_followed finds_none vp8 vp9 rules o.again o.sender first o.samples o.entries o.datagrams o.sender_for.payload_type no_red_again apart o.undescribed one_stream.built_in o.sends f.spec.octet_align f.spec.clock_rate f.spec.codec refl o.sender_for.alike
+
+  backward : r.packets.numbering.backward < 32768
+  backward = subst (λ (n : ℕ). n < 32768) (sym (ap (λ (x : Receiver). x.packets.numbering.backward) begun.is ∙ is.backward)) (small_window (is_of_video f.spec.codec))
+
   come : IsMetBy o.sender.stream sent.all received r (answers_by own) t
-  come = met_calls f.retransmission o.again o.sender.stream one_stream.not_rtcp other apart first sent.all o.datagrams reads sent.numbered (times_from first sent.all) own ks r t (record {
+  come = met_calls f.retransmission o.again o.sender.stream one_stream.not_rtcp other apart first sent.all o.datagrams reads sent.numbered (times_from first sent.all) few finds_none rules followed own ks r t (record {
     is = stream_is;
     numbers = numbers;
     timed = all_timed first sent.all ks;
@@ -162,6 +192,14 @@ module _ (settings : SessionSettings) (ssrc : ℕ) (f : Format) (own : List Rece
     memory = memory;
     typed = typed;
     run = run;
+    backward = backward;
+    last = None;
+    each = each;
+    here = tt;
+    edges = None;
+    knows = tt;
+    after = edges_after;
+    edged = edged;
   })
 
   abbrev start : RunState

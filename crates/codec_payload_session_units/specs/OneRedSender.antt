@@ -24,9 +24,9 @@ use Rattle.codec_payload_session.specs.Ports.{Session, new_session}
 use Rattle.codec_payload_session_formats.specs.Formats.{backward_for, forward_for, is_video}
 use Rattle.codec_payload_session_formats.specs.declared.formats.Format.{Format}
 use Rattle.codec_payload_session_formats.specs.declared.formats.SessionSettings.{SessionSettings}
-use Rattle.codec_payload_session_runs.specs.Lives.{IsAlone, ReceiverCall, events_of, finishes, follows, pairs, pops, receives, reports, shown_of, waits}
+use Rattle.codec_payload_session_runs.specs.Lives.{IsAlone, ReceiverCall, events_of, finishes, follows, pairs, pops, receives, reports, shown_of, waits, notes}
 use Rattle.codec_payload_session_runs.specs.SessionRuns.{Call, Runs}
-use Rattle.codec_payload_session_units.specs.OneSender.{AreCopies, FoundMemory, SendsAll, answers_by, sends_of, steps_by}
+use Rattle.codec_payload_session_units.specs.OneSender.{AreCopies, FoundMemory, SendsAll, answers_by, sends_of, steps_by, AreUndescribed}
 use Rattle.codec_payload_session_units.specs.StreamUnits.{units_told}
 
 -- The sender and the writer send for the streams of a session with this SSRC and format, as without RED (`IsSenderFor`). The format has
@@ -56,6 +56,7 @@ FoundBlocks (waits limits ∷ calls) = FoundBlocks calls
 FoundBlocks (follows wait ∷ calls) = FoundBlocks calls
 FoundBlocks (pairs own ∷ calls) = FoundBlocks calls
 FoundBlocks (reports ∷ calls) = FoundBlocks calls
+FoundBlocks (notes e ∷ calls) = FoundBlocks calls
 
 -- what a stream was given is one sender's: the sender sends these samples, a new writer writes their datagrams in RED, and each datagram
 -- that the stream took is one of these. The packets can be recovered from blocks: their times are as many ticks apart as the format's step
@@ -71,6 +72,7 @@ pub record IsOneRedSenders (settings : SessionSettings) (ssrc : ℕ) (f : Format
   pub sends : SendsAll samples sender entries datagrams
   pub writes : WritesAll writer datagrams written after
   pub few : length datagrams < 2 ^ 63
+  pub undescribed : AreUndescribed settings.dependency_descriptor datagrams
   pub sender_for : IsRedSenderFor settings ssrc f sender writer red
   pub readable : AreReadable sender.packetizer samples
   pub recoverable : IsRecoverable writer.red (record { primary_pt = f.payload_type % 128; step = red.step }) writer.budget (entries_in datagrams)

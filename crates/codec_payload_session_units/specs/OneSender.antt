@@ -16,6 +16,9 @@ use Rattle.codec_payload_keyframes.specs.UnitGates.{drops_units}
 use Rattle.codec_payload_payloader.specs.Sending.{Sample}
 use Rattle.codec_payload_receiver.specs.Pops.{answer_of}
 use Rattle.codec_payload_receiver.specs.declared.receiver.ReceiveError.{ReceiveError}
+use Rattle.codec_payload_rtp.specs.ExtensionFormats.{bytes_for, elements_of}
+use Rattle.codec_payload_rtp.specs.RtpPackets.{Packet}
+use Rattle.codec_payload_rtp.specs.RtpReading.{rtp_at}
 use Rattle.codec_payload_sending.specs.Senders.{Sending}
 use Rattle.codec_payload_sending_history.specs.Histories.{Repeats}
 use Rattle.codec_payload_sending_history.specs.declared.retransmission.RetransmissionStream.{RetransmissionStream}
@@ -23,7 +26,7 @@ use Rattle.codec_payload_session_formats.specs.Formats.{backward_for, forward_fo
 use Rattle.codec_payload_session_formats.specs.declared.formats.Format.{Format}
 use Rattle.codec_payload_session_formats.specs.declared.formats.SessionSettings.{SessionSettings}
 use Rattle.codec_payload_session_stream.specs.Streams.{is_no_memory}
-use Rattle.codec_payload_session_runs.specs.Lives.{ReceiverCall, finishes, follows, pairs, pops, receives, reports, waits, with_shown}
+use Rattle.codec_payload_session_runs.specs.Lives.{ReceiverCall, finishes, follows, pairs, pops, receives, reports, waits, with_shown, notes}
 
 -- ---- what the sender sends
 
@@ -49,6 +52,11 @@ sends_of = sends_from 0
 abbrev pub AreApartFrom : ℕ → Option RetransmissionStream → Type 0
 AreApartFrom ssrc None = Unit {0}
 AreApartFrom ssrc (Some again) = (again.ssrc ≢ ssrc) × ((again.payload_type < 64) ⊎ (95 < again.payload_type))
+
+-- no packet that was sent has the header extension element that the session reads as the dependency descriptor
+abbrev pub AreUndescribed : (descriptor : Option ℕ) → List (List ℕ) → Type 0
+AreUndescribed descriptor datagrams =
+    (index : ℕ) (datagram : List ℕ) (p : Packet) → slice_get datagrams index ≡ Some datagram → rtp_at datagram ≡ Ok p → bytes_for descriptor (elements_of p.header.extension) ≡ None
 
 -- the sender sends for the streams of a session with this SSRC and format. It uses a codec of the library, whose payloads the format's
 -- depacketizer reads, the format's clock rate and payload type, and the SSRC. Its packets do not look like RTCP. The format has no RED,
@@ -96,6 +104,7 @@ AreCopies again datagrams (waits limits ∷ calls) ks = AreCopies again datagram
 AreCopies again datagrams (follows wait ∷ calls) ks = AreCopies again datagrams calls ks
 AreCopies again datagrams (pairs own ∷ calls) ks = AreCopies again datagrams calls ks
 AreCopies again datagrams (reports ∷ calls) ks = AreCopies again datagrams calls ks
+AreCopies again datagrams (notes e ∷ calls) ks = AreCopies again datagrams calls ks
 
 -- the answers of the pops among these calls
 abbrev pub answers_by : List ReceiverCall → List Answer
@@ -107,6 +116,7 @@ answers_by (waits limits ∷ calls) = answers_by calls
 answers_by (follows wait ∷ calls) = answers_by calls
 answers_by (pairs own ∷ calls) = answers_by calls
 answers_by (reports ∷ calls) = answers_by calls
+answers_by (notes e ∷ calls) = answers_by calls
 
 -- memory ran out for none of these units
 abbrev pub FoundMemory : List Answer → Type 0
@@ -124,6 +134,7 @@ steps_by (waits limits ∷ calls) ks = steps_by calls ks
 steps_by (follows wait ∷ calls) ks = steps_by calls ks
 steps_by (pairs own ∷ calls) ks = steps_by calls ks
 steps_by (reports ∷ calls) ks = steps_by calls ks
+steps_by (notes e ∷ calls) ks = steps_by calls ks
 
 -- whether the call has an effect: memory did not run out for its datagram
 abbrev pub has_effect : ReceiverCall → Bool
@@ -134,13 +145,14 @@ has_effect (waits limits) = true
 has_effect (follows wait) = true
 has_effect (pairs own) = true
 has_effect reports = true
+has_effect (notes e) = true
 
 abbrev pub effective : List ReceiverCall → List ReceiverCall
 effective [] = []
 effective (c ∷ cs) = with_shown (has_effect c) c (effective cs)
 
 -- what a stream was given is one sender's: the sender sends these samples, and each datagram that the stream took is a copy of one that
--- was sent. They came within the windows of the stream's receiver, and timely. Memory ran out for no unit. `gave` is what the answers of
+-- was sent. None has a dependency descriptor. They came within the windows of the stream's receiver, and timely. Memory ran out for no unit. `gave` is what the answers of
 -- the run show of the stream
 pub record IsOneSenders (settings : SessionSettings) (ssrc : ℕ) (f : Format) (gave : List ReceiverCall) : Type 0 where
   pub samples : List Sample
@@ -150,6 +162,7 @@ pub record IsOneSenders (settings : SessionSettings) (ssrc : ℕ) (f : Format) (
   pub datagrams : List (List ℕ)
   pub sends : SendsAll samples sender entries datagrams
   pub few : length datagrams < 2 ^ 63
+  pub undescribed : AreUndescribed settings.dependency_descriptor datagrams
   pub sender_for : IsSenderFor settings ssrc f sender
   pub apart : AreApartFrom ssrc again
   pub readable : AreReadable sender.packetizer samples

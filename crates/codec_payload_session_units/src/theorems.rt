@@ -6,6 +6,8 @@ ghost use Rattle.codec_payload_session_units.specs.RedExample.{RedStreamCanBeMet
 ghost use Rattle.codec_payload_session_units.specs.RedStreamLogs.{RedStreamsKeepPromises};
 ghost use Rattle.codec_payload_session_units.specs.StreamUnits.{AllStreamsReleaseUnits, EndedStreamsReleaseUnits, StreamsReleaseUnits};
 
+use codec_payload_edges::theorems::{between_pictures_is_no_media, packetizers_send_in_order};
+
 /// The units of a stream of a session are the units of its sender's samples, if each datagram that the stream took is one of that
 /// sender's, or a retransmission of one, within the windows. The events have the units in order, each at most once and complete. None
 /// is lost silently: see [`run_new_session`] for runs, and `docs/proof/STREAM_UNITS.md` for the premises.
@@ -17,7 +19,10 @@ pub fn streams_release_units()
     ensures each { AllStreamsReleaseUnits }
     // And each stream that ended with an event.
     ensures ended { EndedStreamsReleaseUnits }
-{}
+{
+    between_pictures_is_no_media();
+    packetizers_send_in_order();
+}
 
 /// The same for a stream in RED (RFC 2198) without retransmissions: the events have the units of its sender's samples, in order, each
 /// at most once and complete. A packet may come as a block of a later datagram.

@@ -13,6 +13,8 @@ use crate::stream::receiver::{
     ReceiveError, Receiver, ReceiverSettings, Retransmission, SettingsError,
 };
 use crate::stream::reports::ReceptionReport;
+use crate::stream_edges::following::StreamEdges;
+use crate::stream_edges::rules::EdgeRules;
 use crate::wire::Ticks;
 use alloc::vec::Vec;
 
@@ -59,6 +61,20 @@ impl NamedReceiver {
         datagram: &ParsedDatagram<'_>,
     ) -> Result<Outcome, ReceiveError> {
         self.receiver.receive_parsed(now, datagram)
+    }
+
+    /// Follows a datagram by the edges of the stream's pictures, and records which numbers carry no media. `answer` is what
+    /// [`NamedReceiver::receive`] returned for it. If memory runs out, fewer numbers are recorded, and nothing else differs. See
+    /// [`StreamEdges::follow`].
+    #[inline(always)]
+    pub(crate) fn follow(
+        &mut self,
+        edges: &mut StreamEdges,
+        rules: &EdgeRules,
+        datagram: &ParsedDatagram<'_>,
+        answer: &Result<Outcome, ReceiveError>,
+    ) {
+        let _ = edges.follow(rules, &mut self.receiver, datagram, answer);
     }
 
     /// Pops the next unit into `unit`, or returns a refused frame. See [`Receiver::pop_unit`].

@@ -18,12 +18,13 @@ use crate::session::names::{StreamNameIds, StreamNames};
 use crate::session::reports::SenderClock;
 use crate::session::requests::{
     Feedback, KeyframeAnswer, answer_if, are_idle, ask_keyframe, hear, request_counts,
-    requests_due, rest_time, round_trip, set_reported, wait_by,
+    requests_due, rest_time, round_trip, wait_by,
 };
 use crate::session::times::{LAST_KEY, earlier, key_of, or_max, or_none, time_of};
 use crate::stream::parsed::ParsedDatagram;
 use crate::stream::pops::Popped;
 use crate::stream::receiver::{Counters, ReceiveError, Receiver};
+use crate::stream_edges::following::StreamEdges;
 use crate::waiting::adaptive_wait::AdaptiveWait;
 use crate::wire::Ticks;
 use alloc::vec::Vec;
@@ -89,6 +90,10 @@ pub(crate) struct StreamState {
     pub ssrc: u32,
     pub format: Format,
     pub receiver: NamedReceiver,
+    /// The edges of its pictures: they show which of its missing numbers carry no media.
+    pub(crate) edges: StreamEdges,
+    /// The id of the header extension element with the dependency descriptor.
+    pub(crate) descriptor: Option<u8>,
     pub stage: Stage,
     /// Whether the stream was announced.
     pub announced: bool,
@@ -153,6 +158,7 @@ impl StreamState {
         let feedback = Feedback::begin(&settings.feedback, ssrc, format, max_wait)?;
         let late = late_for(settings, format)?;
         let name_ids = settings.name_ids;
+        let descriptor = settings.dependency_descriptor;
         let settings = settings.receiver(ssrc, format)?;
         let begun = NamedReceiver::begin(depacketizer, settings)?;
         let receiver = begun.unwrap();
@@ -160,6 +166,8 @@ impl StreamState {
             ssrc,
             format: *format,
             receiver,
+            edges: StreamEdges::new(),
+            descriptor,
             stage: Stage::Probation,
             announced: false,
             taken: 0,
@@ -188,7 +196,8 @@ impl StreamState {
         is_probation(self.stage)
     }
 
-    /// Passes a datagram to the receiver. If memory runs out, only the receiver may have changed.
+    /// Passes a datagram to the receiver, and records which numbers carry no media. If memory runs out, only the receiver may have
+    /// changed.
     #[inline(always)]
     pub(crate) fn take(
         &mut self,
@@ -198,6 +207,7 @@ impl StreamState {
     ) -> Result<Outcome, ReceiveError> {
         self.quiet_until = 0;
         let answer = self.receiver.receive(now, datagram);
+        self.follow_edges(datagram, &answer);
         let accepted = is_accepted(&answer);
         self.hear_if(accepted, now, datagram);
         self.follow_if(answer.is_ok(), now, datagram);
@@ -249,7 +259,7 @@ impl StreamState {
 
     /// Waits for as long as the round trip asks for, if waiting follows it and it is sure.
     #[inline(always)]
-    fn follow_round_trip(&mut self) {
+    pub(crate) fn follow_round_trip(&mut self) {
         let wait = wait_by(&self.feedback);
         self.wait_for(wait);
     }
@@ -329,21 +339,6 @@ impl StreamState {
         if self.is_of(ssrc, payload_type) {
             self.quiet_until = 0;
             self.receiver.set_wait_limits(wait_limits);
-        }
-    }
-
-    /// Sets the round trip that reports measured, in ticks, and waits by it, if the stream has this SSRC and payload type. `None`: the
-    /// answers to requests count.
-    pub(crate) fn set_round_trip_if(
-        &mut self,
-        ssrc: u32,
-        payload_type: u8,
-        round_trip: Option<u64>,
-    ) {
-        if self.is_of(ssrc, payload_type) {
-            self.quiet_until = 0;
-            set_reported(&mut self.feedback, round_trip);
-            self.follow_round_trip();
         }
     }
 

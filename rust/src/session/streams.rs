@@ -15,6 +15,7 @@ use crate::session::compound::take_packets;
 use crate::session::dues::due_in;
 use crate::session::events::Event;
 use crate::session::formats::{Format, SessionSettings, SsrcPair};
+use crate::session::names::StreamNames;
 use crate::session::pairs::{pair, with_pair};
 use crate::session::renegotiation::leave_formats;
 use crate::session::sort::{SortedPacket, sort};
@@ -238,6 +239,14 @@ impl Streams {
         self.ssrcs.find(ssrc, 0)
     }
 
+    /// Returns the names of the first stream of this SSRC.
+    fn names_of_ssrc(&self, ssrc: u32) -> StreamNames {
+        match self.place_of_ssrc(ssrc) {
+            Some(place) => self.list[place].names,
+            None => StreamNames::default(),
+        }
+    }
+
     /// Passes a datagram to the stream at this place.
     #[inline(always)]
     fn feed(
@@ -268,6 +277,7 @@ impl Streams {
         let (ssrc, format) = of;
         let mut stream = StreamState::begin(settings, ssrc, &format)?;
         stream.tell_round_trip(self.exchange.round_trip);
+        stream.tell_names(self.names_of_ssrc(ssrc));
         let answer = stream.take(now, settings.probation, datagram);
         if is_no_memory(&answer) {
             return Err(AllocError);

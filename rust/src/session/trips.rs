@@ -12,6 +12,21 @@ impl StreamState {
         self.quiet_until = 0;
         set_reported(&mut self.feedback, round_trip);
     }
+
+    /// Sets the round trip that reports measured, in ticks, and waits by it, if the stream has this SSRC and payload type. `None`: the
+    /// answers to requests count.
+    pub(crate) fn set_round_trip_if(
+        &mut self,
+        ssrc: u32,
+        payload_type: u8,
+        round_trip: Option<u64>,
+    ) {
+        if self.is_of(ssrc, payload_type) {
+            self.quiet_until = 0;
+            set_reported(&mut self.feedback, round_trip);
+            self.follow_round_trip();
+        }
+    }
 }
 
 /// Sets the round trip that reports measured for each stream.

@@ -5,6 +5,7 @@ mod changes;
 mod datagrams;
 mod deadlines;
 mod descriptors;
+mod edges;
 mod extended;
 mod keyframes;
 mod many;

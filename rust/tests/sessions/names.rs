@@ -165,7 +165,8 @@ fn other_packets_of_a_stream_have_names() -> Result<(), Fail> {
     Ok(())
 }
 
-/// A stream in another format begins without names, and the earlier one keeps its own.
+/// A stream in another format begins with the names of its SSRC, since its sender need not send them again. A name that its own packets
+/// have replaces the one from before, and the earlier stream keeps its own. Another SSRC begins without names.
 #[test]
 fn each_stream_has_its_own_names() -> Result<(), Fail> {
     let mut session = session(|it| {
@@ -175,8 +176,13 @@ fn each_stream_has_its_own_names() -> Result<(), Fail> {
     session.receive(Ticks(0), &with_elements(&vp8(7, 1, true), &[(MID, b"v")]))?;
     session.receive(Ticks(0), &vp8(7, 2, true))?;
     session.receive(Ticks(1), &packet(VP9, 7, 3, 9_000, &[0x0c, 1]))?;
-    assert_eq!(session.names_of(7, VP9), Some(StreamNames::default()));
+    assert_eq!(session.names_of(7, VP9).and_then(|it| it.mid), name(b"v"));
+    let renamed = with_elements(&packet(VP9, 7, 4, 12_000, &[0x0c, 1]), &[(MID, b"w")]);
+    session.receive(Ticks(2), &renamed)?;
+    assert_eq!(session.names_of(7, VP9).and_then(|it| it.mid), name(b"w"));
     assert_eq!(session.names_of(7, VP8).and_then(|it| it.mid), name(b"v"));
+    session.receive(Ticks(2), &vp8(8, 1, true))?;
+    assert_eq!(session.names_of(8, VP8), Some(StreamNames::default()));
     Ok(())
 }
 

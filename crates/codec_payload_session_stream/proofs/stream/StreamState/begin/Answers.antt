@@ -1,8 +1,9 @@
-use Rattle.std.proofs.Common.{◌∙◌, ap, refl, rules, sym, subst, Result, IsOk}
+use Rattle.std.proofs.Common.{◌∙◌, ap, refl, rules, sym, subst, Option, Result, IsOk}
 use Rattle.codec_payload_codec.specs.Depacketizers.{DepacketizerState, depacketizer_state_for, depacketizer_state_of}
 use Rattle.codec_payload_jitter.specs.declared.waiting.WaitLimits.{WaitLimits}
 use Rattle.codec_payload_receiver.specs.Sessions.{Session as Receiver, session_by}
 use Rattle.codec_payload_receiver.specs.declared.receiver.SettingsError.{SettingsError}
+use Rattle.codec_payload_stream_edges.specs.declared.followed.Followed.{Followed}
 use Rattle.codec_payload_session_stream.proofs.CheckLemmas.{fits, known_by, receiver_made, some_mapped}
 use Rattle.codec_payload_session_requests.specs.Requests.{feedback_by}
 use Rattle.codec_payload_session_stream.proofs.stream.StreamState.begin.Goals as goal
@@ -21,6 +22,7 @@ pub returns : goal.returns
 returns c = record {
   ssrc_is = refl;
   format = refl;
+  edges = ap (λ (e : Option Followed). record { descriptor = c.args.settings.now.dependency_descriptor; followed = e }) c.new.ensures;
   stage = refl;
   announced = refl;
   taken = refl;
