@@ -70,6 +70,12 @@ static bool has_room_for_red(const viewer_path *path, peer *from, uint64_t rate)
     return !path->follows || path->state.estimate >= (rate + publisher_rate(from, AUDIO, 0) / 2) * 21 / 20;
 }
 
+/* Whether the last packet of each frame leaves twice: on a path that loses packets, with half of the frames or fewer, and room for a
+ * third of the rate. */
+static bool has_room_for_tails(const peer *it, int temporal, uint64_t rate) {
+    return it->path->follows && it->viewer[VIDEO].losses > LOSSY && temporal < 2 && it->path->state.estimate >= rate * 4 / 3;
+}
+
 /* Whether much waits for the pace. */
 static bool is_late(const viewer_path *path) {
     return path->follows && path->state.waiting * 8 * 1000 > (uint64_t)LITTLE * MAX(path->state.estimate, 1);
@@ -92,6 +98,7 @@ void path_choose(peer *it, peer *from, uint64_t now) {
     size_t chosen = MIN(order.choice, all.len - 1);
     uint64_t rate = all.rates[chosen < all.len - 1 ? chosen : chosen - 1].rate;
     bool late = is_late(path);
+    path->tails = !late && has_room_for_tails(it, all.layers[chosen].temporal, rate);
     viewer_goes_to(it, all.layers[chosen].track, late ? 0 : all.layers[chosen].temporal, !late && has_room_for_red(path, from, rate));
     if (it->media[VIDEO].used && order.padding > 0) {
         path_fill(it, order.padding);

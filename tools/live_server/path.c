@@ -12,7 +12,7 @@ enum {
     OPEN = 100000000,       /* bits per second: the pace for a viewer that reports nothing */
     UNHEARD = 2000000,      /* us after which a viewer counts as one that reports nothing */
     FIRST_ROUND_TRIP = 50000, /* us: before the first report */
-    OVERTAKEN = 2,          /* packets that may overtake one */
+    OVERTAKEN = 10000,      /* us: a packet may be overtaken by those that left within them after it */
     ROUND_TRIP_MARGIN = 10000 /* us: a report comes up to so much later */
 };
 
@@ -152,6 +152,7 @@ static void send_packet(peer *it, peer *from, const cpay_path_leaving *leaving, 
     path->unheard++;
     if (!path->first_left) path->first_left = now;
     srtp_send(it, out, numbers ? length : size, false);
+    if (from && path->tails && one.what == PACKET && one.track != AUDIO && out[1] & 0x80) viewer_resend(it, from, VIDEO, path->left[place].repeats);
 }
 
 void path_send(peer *it, peer *from, uint64_t now) {
@@ -185,14 +186,16 @@ static void measure_round_trip(viewer_path *path, const cpay_transport_feedback_
 }
 
 /* A packet of video that is lost leaves again at once. The viewer requests it only when the next packet of video comes, and a
- * retransmission later than its report. Some packets behind it arrived, so it was not overtaken. */
+ * retransmission later than its report. One that left some time after it arrived, so it was not overtaken. */
 static void repeat_lost(peer *it, peer *from, const cpay_packet_arrival *packets, size_t count) {
     viewer_path *path = it->path;
-    unsigned arrived = 0;
+    uint32_t after = 0;
+    bool any = false;
     for (size_t i = count; i-- > 0 && from;) {
         size_t place = packets[i].number % MOST_LEFT;
-        arrived += packets[i].arrived;
-        if (packets[i].arrived || arrived < OVERTAKEN || path->left[place].number != packets[i].number || !path->left[place].is_video) continue;
+        if (path->left[place].number != packets[i].number) continue;
+        if (packets[i].arrived && !any) after = path->left[place].at, any = true;
+        if (packets[i].arrived || !any || !path->left[place].is_video || after - path->left[place].at < OVERTAKEN) continue;
         path->left[place].is_video = false;
         viewer_resend(it, from, VIDEO, path->left[place].repeats);
     }

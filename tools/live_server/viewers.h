@@ -76,6 +76,7 @@ struct viewer_path {
     } left[MOST_LEFT];   /* the latest packets that left, by their numbers */
     waiting order[MOST_ORDERED]; /* of video, in a ring: what is left out keeps its place */
     size_t order_first, order_len;
+    bool tails; /* the last packet of a frame leaves twice: the viewer would see its loss with the next frame */
     wishes wishes;
     int choice;                   /* the place in the list of choices; -1: none yet */
     uint64_t rates[MOST_CHOICES]; /* of the choices, in bits per second */
