@@ -82,8 +82,8 @@ unfolding tried
 tries_first zero s = refl
 tries_first (suc n) s = due_first n s (first_due s.fecs) (tries_first n)
 
-fresh_first : (b : Bool) (s : State) → (cond b (tried 4 s).state s).first ≡ s.first
-fresh_first true s = tries_first 4 s
+fresh_first : (b : Bool) (s : State) → (cond b (tried 2 s).state s).first ≡ s.first
+fresh_first true s = tries_first 2 s
 fresh_first false s = refl
 
 after_first : (s : State) → (after_tries s).first ≡ s.first
@@ -97,8 +97,8 @@ handed_first : (o : Option ℕ) (s : State) → (handed_if o s).state.first ≡ 
 handed_first None s = refl
 handed_first (Some place) s = kept_first place s (rebuilt_by s (fec_at (fec_at_place place s).bytes))
 
-next_first : (b : Bool) (s : State) → (cond b (handed_if (tried 4 s).ready (tried 4 s).state) (record { packet = None; state = s })).state.first ≡ s.first
-next_first true s = handed_first (tried 4 s).ready (tried 4 s).state ∙ tries_first 4 s
+next_first : (b : Bool) (s : State) → (cond b (handed_if (tried 2 s).ready (tried 2 s).state) (record { packet = None; state = s })).state.first ≡ s.first
+next_first true s = handed_first (tried 2 s).ready (tried 2 s).state ∙ tries_first 2 s
 next_first false s = refl
 
 first_kept : (s : State) → (next_of s).state.first ≡ s.first
@@ -246,8 +246,8 @@ module _ (sent : ℕ → Option (List ℕ)) where
   after_holds : (ss : FecSettings) (a : ℕ) (s : State) → Holds ss a s → Holds ss a (after_tries s)
   after_holds ss a s h = by_fresh s.is_fresh
     where
-      by_fresh : (b : Bool) → Holds ss a (cond b (tried 4 s).state s)
-      by_fresh true = tried_holds ss a 4 s h
+      by_fresh : (b : Bool) → Holds ss a (cond b (tried 2 s).state s)
+      by_fresh true = tried_holds ss a 2 s h
       by_fresh false = h
 
   -- ---- packets are handed out
@@ -275,8 +275,8 @@ module _ (sent : ℕ → Option (List ℕ)) where
           let packet = rebuilt_by_held ss a t (fec_at (fec_at_place place t).bytes) is made ht in
           record { packet = packet; holds = handed_holds ss a place t (rebuilt_by t (fec_at (fec_at_place place t).bytes)) packet ht }
 
-      by_fresh : (b : Bool) → Hands ss a (cond b (handed_if (tried 4 s).ready (tried 4 s).state) (record { packet = None; state = s })).packet (cond b (handed_if (tried 4 s).ready (tried 4 s).state) (record { packet = None; state = s })).state
-      by_fresh true = if_ready (tried 4 s).ready (tried 4 s).state (tried_holds ss a 4 s h)
+      by_fresh : (b : Bool) → Hands ss a (cond b (handed_if (tried 2 s).ready (tried 2 s).state) (record { packet = None; state = s })).packet (cond b (handed_if (tried 2 s).ready (tried 2 s).state) (record { packet = None; state = s })).state
+      by_fresh true = if_ready (tried 2 s).ready (tried 2 s).state (tried_holds ss a 2 s h)
       by_fresh false = record { packet = tt; holds = h }
 
   -- ---- a datagram
