@@ -38,7 +38,7 @@ KINDS = [
     "cpay_receiver", "cpay_adaptive_wait", "cpay_freezes", "cpay_transport_reporter", "cpay_sent_packets", "cpay_session",
 ]
 # The same for the handles of codec_payload_c_path, which have another call to free them.
-PATH_KINDS = ["cpay_path", "cpay_resend_limit", "cpay_packet_store"]
+PATH_KINDS = ["cpay_path", "cpay_resend_limit", "cpay_packet_store", "cpay_fec_receiver"]
 ALL_KINDS = [*KINDS[:-1], *PATH_KINDS, KINDS[-1]]
 # Types of handles that are the same in C.
 SAME = {"PathHandle": "Handle"}

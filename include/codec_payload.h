@@ -304,6 +304,10 @@ typedef struct {
 
 typedef struct {
     cpay_handle handle;
+} cpay_fec_receiver;
+
+typedef struct {
+    cpay_handle handle;
 } cpay_session;
 
 #define CPAY_INIT { { false, { NULL } } }
@@ -324,6 +328,7 @@ void cpay_sent_packets_free(cpay_sent_packets *packets);
 void cpay_path_free(cpay_path *path);
 void cpay_resend_limit_free(cpay_resend_limit *limit);
 void cpay_packet_store_free(cpay_packet_store *store);
+void cpay_fec_receiver_free(cpay_fec_receiver *receiver);
 void cpay_session_free(cpay_session *session);
 
 /** A codec with its settings. Settings of other codecs are ignored, with two exceptions: `rate` is always checked, and
@@ -1521,6 +1526,36 @@ CPAY_CHECKED cpay_status cpay_packet_store_keep(cpay_packet_store *store, const 
  * to CPAY_FEC_PAYLOAD_TOO_SHORT: not a packet of FEC. The store stays as it is. [m] */
 CPAY_CHECKED cpay_status cpay_packet_store_rebuild(cpay_packet_store *store, uint32_t ssrc, const uint8_t *fec, size_t fec_len,
                                                    uint8_t *bytes, size_t bytes_len, size_t *size);
+
+/** Settings of a receiver of FEC. Each id is that of a header extension that the sender fills in after it made the FEC, as
+ * a=extmap gives it; 0: not agreed on. A wrong id rebuilds wrong packets. Begin with { 0 }. */
+typedef struct {
+    size_t bytes;               /**< how much memory packets of media may take; a packet above the 512th part of it is not kept */
+    uint32_t ssrc;              /**< SSRC of the media and of its FEC */
+    uint8_t red_type;           /**< payload type of RED; above 127: none */
+    uint8_t fec_type;           /**< payload type of ULPFEC; above 127: none */
+    uint8_t transport_number;   /**< id of the transport-wide sequence number */
+    uint8_t abs_send_time;      /**< id of abs-send-time */
+    uint8_t transmission_offset; /**< id of toffset */
+    uint8_t video_timing;       /**< id of video-timing */
+} cpay_fec_receiver_settings;
+
+/** Creates a receiver that rebuilds lost packets of one stream, in an empty handle. It keeps the latest 512 packets of media and 64
+ * of FEC: at most 9/8 of `bytes` and 16 kB. Allocates 12 kB. [m] */
+CPAY_CHECKED cpay_status cpay_fec_receiver_new(cpay_fec_receiver *receiver, const cpay_fec_receiver_settings *settings);
+
+/** Takes a datagram of the stream as it came: media or FEC, in RED with one block or without RED. Others are ignored. Pass no
+ * retransmissions: their header extensions differ. CPAY_OUT_OF_MEMORY: nothing changed. [m] */
+CPAY_CHECKED cpay_status cpay_fec_receiver_receive(cpay_fec_receiver *receiver, const uint8_t *datagram, size_t datagram_len);
+
+/** Writes a packet that was rebuilt: a whole RTP packet as it was before RED. Call it after each datagram: at most one packet is
+ * rebuilt then. For FEC of the sender of these packets it is a packet that was sent, byte for byte, with zeros in the extensions of
+ * the settings. CPAY_NONE: no packet can be rebuilt now. CPAY_TOO_SMALL: *size is written, and the next call returns the same
+ * packet. CPAY_OUT_OF_MEMORY: nothing is lost; call it again. [m] */
+CPAY_CHECKED cpay_status cpay_fec_receiver_next(cpay_fec_receiver *receiver, uint8_t *bytes, size_t bytes_len, size_t *size);
+
+/** Drops all packets. Call it if the sender restarts. */
+CPAY_CHECKED cpay_status cpay_fec_receiver_restart(cpay_fec_receiver *receiver);
 
 /* ---- A session: all datagrams of a port in, the events of its streams out ---- */
 

@@ -469,6 +469,21 @@ public:
     }
 };
 
+/** Rebuilds lost packets of a stream from its FEC: see cpay_fec_receiver_new. */
+class fec_receiver : public handle<cpay_fec_receiver, cpay_fec_receiver_free> {
+public:
+    [[nodiscard]] cpay_status make(const cpay_fec_receiver_settings &settings) noexcept {
+        return cpay_fec_receiver_new(get(), &settings);
+    }
+    [[nodiscard]] cpay_status receive(bytes datagram) noexcept {
+        return cpay_fec_receiver_receive(get(), datagram.data(), datagram.size());
+    }
+    [[nodiscard]] cpay_status next(room to, std::size_t &size) noexcept {
+        return cpay_fec_receiver_next(get(), to.data(), to.size(), &size);
+    }
+    [[nodiscard]] cpay_status restart() noexcept { return cpay_fec_receiver_restart(get()); }
+};
+
 /** The first setting that no session can meet: see cpay_session_settings_check. */
 [[nodiscard]] inline cpay_status check_settings(const cpay_session_settings &settings, view<const cpay_session_format> formats,
                                                 bytes no_media, cpay_settings_fault &fault) noexcept {

@@ -151,6 +151,12 @@ CPAY_CHECKED cpay_status cpay_packet_store_create(cpay_packet_store **store, siz
 /** Frees a store of packets and the memory of its handle. */
 void cpay_packet_store_destroy(cpay_packet_store *store);
 
+/** Creates a receiver of FEC as cpay_fec_receiver_new does. [m] */
+CPAY_CHECKED cpay_status cpay_fec_receiver_create(cpay_fec_receiver **receiver, const cpay_fec_receiver_settings *settings);
+
+/** Frees a receiver of FEC and the memory of its handle. */
+void cpay_fec_receiver_destroy(cpay_fec_receiver *receiver);
+
 /** Creates a session as cpay_session_new does. [m] */
 CPAY_CHECKED cpay_status cpay_session_create(cpay_session **session, const cpay_session_settings *settings,
                                              const cpay_session_format *formats, size_t formats_len, const uint8_t *no_media,

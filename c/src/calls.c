@@ -72,6 +72,10 @@ void cpay_packet_store_free(cpay_packet_store *store) {
     if (store) proved_cpay_path_object_free(&store->handle);
 }
 
+void cpay_fec_receiver_free(cpay_fec_receiver *receiver) {
+    if (receiver) proved_cpay_path_object_free(&receiver->handle);
+}
+
 void cpay_session_free(cpay_session *session) {
     if (session) proved_cpay_free(&session->handle);
 }
@@ -710,6 +714,28 @@ cpay_status cpay_packet_store_rebuild(cpay_packet_store *store, uint32_t ssrc, c
     if ((!fec && fec_len) || (!bytes && bytes_len)) return CPAY_INVALID;
     return proved_cpay_packet_store_rebuild(&store->handle, ssrc, fec ? fec : (const uint8_t *)nothing, fec_len,
                                             bytes ? bytes : (uint8_t *)nothing, bytes_len, size);
+}
+
+cpay_status proved_cpay_fec_receiver_new(cpay_handle *receiver, const cpay_fec_receiver_settings *settings);
+cpay_status cpay_fec_receiver_new(cpay_fec_receiver *receiver, const cpay_fec_receiver_settings *settings) {
+    return proved_cpay_fec_receiver_new(&receiver->handle, settings);
+}
+
+cpay_status proved_cpay_fec_receiver_receive(cpay_handle *receiver, const uint8_t *datagram, size_t datagram_len);
+cpay_status cpay_fec_receiver_receive(cpay_fec_receiver *receiver, const uint8_t *datagram, size_t datagram_len) {
+    if (!datagram && datagram_len) return CPAY_INVALID;
+    return proved_cpay_fec_receiver_receive(&receiver->handle, datagram ? datagram : (const uint8_t *)nothing, datagram_len);
+}
+
+cpay_status proved_cpay_fec_receiver_next(cpay_handle *receiver, uint8_t *bytes, size_t bytes_len, size_t *size);
+cpay_status cpay_fec_receiver_next(cpay_fec_receiver *receiver, uint8_t *bytes, size_t bytes_len, size_t *size) {
+    if (!bytes && bytes_len) return CPAY_INVALID;
+    return proved_cpay_fec_receiver_next(&receiver->handle, bytes ? bytes : (uint8_t *)nothing, bytes_len, size);
+}
+
+cpay_status proved_cpay_fec_receiver_restart(cpay_handle *receiver);
+cpay_status cpay_fec_receiver_restart(cpay_fec_receiver *receiver) {
+    return proved_cpay_fec_receiver_restart(&receiver->handle);
 }
 
 void proved_cpay_session_settings_init(cpay_session_settings *settings, cpay_purpose purpose);

@@ -231,6 +231,21 @@ void cpay_packet_store_destroy(cpay_packet_store *store) {
     free(store);
 }
 
+cpay_status cpay_fec_receiver_create(cpay_fec_receiver **receiver, const cpay_fec_receiver_settings *settings) {
+    cpay_fec_receiver *made = malloc(sizeof *made);
+    if (!made) return CPAY_OUT_OF_MEMORY;
+    *made = (cpay_fec_receiver)CPAY_INIT;
+    const cpay_status status = cpay_fec_receiver_new(made, settings);
+    if (status) free(made);
+    else *receiver = made;
+    return status;
+}
+
+void cpay_fec_receiver_destroy(cpay_fec_receiver *receiver) {
+    cpay_fec_receiver_free(receiver);
+    free(receiver);
+}
+
 cpay_status cpay_session_create(cpay_session **session, const cpay_session_settings *settings,
                                 const cpay_session_format *formats, size_t formats_len, const uint8_t *no_media,
                                 size_t no_media_len, const cpay_ssrc_pair *pairs, size_t pairs_len) {

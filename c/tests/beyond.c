@@ -394,6 +394,16 @@ static void reports(size_t size) {
     cpay_status status = TOLD(cpay_packet_store_rebuild(&store, 7, fec, sizeof head + least(size, 65535), room, sizeof room, &found));
     if (status && status != CPAY_NONE && status != CPAY_OUT_OF_MEMORY) bad++;
     cpay_packet_store_free(&store);
+    const cpay_fec_receiver_settings settings = {.bytes = 512 * size, .ssrc = 7, .red_type = 116, .fec_type = 117};
+    cpay_fec_receiver receiver = CPAY_INIT;
+    MADE(cpay_fec_receiver_new(&receiver, &settings));
+    bytes = packet(room, VP8, 7, 1, frame, least(size, 65000));
+    MADE(cpay_fec_receiver_receive(&receiver, room, bytes));
+    bytes = packet(room, 117, 7, 1, fec, sizeof head + least(size, 65000));
+    MADE(cpay_fec_receiver_receive(&receiver, room, bytes));
+    status = TOLD(cpay_fec_receiver_next(&receiver, room, sizeof room, &found));
+    if (status && status != CPAY_NONE && status != CPAY_OUT_OF_MEMORY) bad++;
+    cpay_fec_receiver_free(&receiver);
 }
 
 int main(void) {

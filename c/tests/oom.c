@@ -392,6 +392,28 @@ static int reports(int *met) {
     return kept == before ? 0 : 9;
 }
 
+/* A receiver of FEC rebuilds the second of two packets. A call without memory changes nothing, and no packet is lost. */
+static int fec_receiver(int *met) {
+    static const uint8_t sent[2][12] = {{0x80, 96, 0, 8, 0, 0, 0, 3, 0, 0, 0, 7}, {0x80, 96, 0, 9, 0, 0, 0, 3, 0, 0, 0, 7}};
+    static const uint8_t fec[26] = {0x80, 117, 0, 10, 0, 0, 0, 3, 0, 0, 0, 7, 0, 0, 0, 8, 0, 0, 0, 0, 0, 0, 0, 0, 0xc0, 0};
+    const cpay_fec_receiver_settings settings = {.bytes = 512 * 100, .ssrc = 7, .red_type = 116, .fec_type = 117};
+    long before = kept;
+    cpay_fec_receiver receiver = CPAY_INIT;
+    uint8_t bytes[64] = {0};
+    size_t size = 99;
+    cpay_status status;
+    AGAIN(status, cpay_fec_receiver_new(&receiver, &settings));
+    if (status) return 1;
+    AGAIN(status, cpay_fec_receiver_receive(&receiver, sent[0], 12));
+    if (status) return 2;
+    AGAIN(status, cpay_fec_receiver_receive(&receiver, fec, sizeof fec));
+    if (status) return 3;
+    AGAIN(status, cpay_fec_receiver_next(&receiver, bytes, sizeof bytes, &size));
+    if (status || size != 12 || memcmp(bytes, sent[1], 12)) return 4;
+    cpay_fec_receiver_free(&receiver);
+    return kept == before ? 0 : 5;
+}
+
 /* A reporter with a name: packets arrive, with a gap, and are reported; the feedback is read with the times of sending. REMB. */
 static int transport(int *met) {
     long before = kept;
@@ -959,6 +981,7 @@ static int session(int *met) {
     if (!ended) ended = transport(met);
     if (!ended) ended = paths(met);
     if (!ended) ended = reports(met);
+    if (!ended) ended = fec_receiver(met);
     if (!ended) ended = port(met);
     if (!ended) ended = ending(met);
     if (!ended) ended = choosing(met);

@@ -336,6 +336,14 @@ void over_reports() {
     CHECK(cpay::fec_read(fec, protects) == CPAY_OK && protects.base == 8 && protects.mask == 0xc00000000000);
     CHECK(store.keep(sent) == CPAY_EMPTY && store.make(51200) == CPAY_OK && store.keep(sent) == CPAY_OK);
     CHECK(store.rebuild(7, fec, to, size) == CPAY_OK && size == 12 && to[3] == 9);
+    std::uint8_t in_packet[26] = {0x80, 117, 0, 10, 0, 0, 0, 3, 0, 0, 0, 7};
+    std::copy(std::begin(fec), std::end(fec), in_packet + 12);
+    cpay_fec_receiver_settings settings = {};
+    settings.bytes = 51200, settings.ssrc = 7, settings.red_type = 116, settings.fec_type = 117;
+    cpay::fec_receiver receiver;
+    CHECK(receiver.receive(sent) == CPAY_EMPTY && receiver.make(settings) == CPAY_OK && receiver.receive(sent) == CPAY_OK);
+    CHECK(receiver.receive(in_packet) == CPAY_OK && receiver.next(to, size) == CPAY_OK && size == 12 && to[3] == 9);
+    CHECK(receiver.next(to, size) == CPAY_NONE && receiver.restart() == CPAY_OK);
 }
 
 void over_red() {

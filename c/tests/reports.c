@@ -213,10 +213,73 @@ static void fec_faults(void) {
     cpay_packet_store_free(NULL);
 }
 
+/* The example over the wire: packets in RED or without it, FEC in RED, one packet is lost. Its transport-wide number is filled in late. */
+static size_t in_red(uint8_t *datagram, const uint8_t *packet, size_t size, uint8_t kind) {
+    memcpy(datagram, packet, 12);
+    datagram[1] = (uint8_t)((packet[1] & 0x80) | 116);
+    datagram[12] = kind;
+    memcpy(datagram + 13, packet + 12, size - 12);
+    return size + 1;
+}
+
+static void receives_fec(void) {
+    const cpay_fec_receiver_settings settings = {.bytes = 512 * 400, .ssrc = 2, .red_type = 116, .fec_type = 117, .transport_number = 3};
+    uint8_t fec[400], packet[400], datagram[420], bytes[400];
+    uint8_t head[12] = {0x80, 116, 0, 12, 0, 0, 0, 9, 0, 0, 0, 2};
+    size_t fec_size = example_fec(fec), size = 99;
+    for (int lost = 0; lost < 4; lost++) {
+        cpay_fec_receiver receiver = CPAY_INIT;
+        CHECK(cpay_fec_receiver_new(&receiver, &settings) == CPAY_OK && cpay_fec_receiver_new(&receiver, &settings) == CPAY_FULL);
+        for (int round = 0; round < 2; round++) {
+            for (int which = 0; which < 4; which++) {
+                if (which == lost) continue;
+                size_t length = example(packet, which);
+                bool plain = which == 3;
+                length = plain ? (memcpy(datagram, packet, length), length) : in_red(datagram, packet, length, packet[1] & 0x7f);
+                CHECK(cpay_fec_receiver_receive(&receiver, datagram, length) == CPAY_OK);
+                CHECK(cpay_fec_receiver_next(&receiver, bytes, sizeof bytes, &size) == CPAY_NONE);
+            }
+            /* the first time all is forgotten before the FEC comes */
+            if (round == 0) CHECK(cpay_fec_receiver_restart(&receiver) == CPAY_OK);
+        }
+        memcpy(datagram, head, 12);
+        datagram[12] = 117;
+        memcpy(datagram + 13, fec, fec_size);
+        CHECK(cpay_fec_receiver_receive(&receiver, datagram, 13 + fec_size) == CPAY_OK);
+        size_t wanted = example(packet, lost);
+        memset(bytes, UNTOUCHED, sizeof bytes);
+        CHECK(cpay_fec_receiver_next(&receiver, bytes, wanted - 1, &size) == CPAY_TOO_SMALL && size == wanted && untouched(bytes, 0, sizeof bytes));
+        CHECK(cpay_fec_receiver_next(&receiver, bytes, sizeof bytes, &size) == CPAY_OK && size == wanted);
+        CHECK(!memcmp(bytes, packet, wanted) && untouched(bytes, wanted, sizeof bytes));
+        CHECK(cpay_fec_receiver_next(&receiver, bytes, sizeof bytes, &size) == CPAY_NONE);
+        cpay_fec_receiver_free(&receiver);
+    }
+    cpay_fec_receiver_free(NULL);
+}
+
+/* What the sender fills in late is zero in FEC and in what is rebuilt: the transport-wide number (id 3), not the other element (id 4). */
+static void late_elements(void) {
+    const cpay_fec_receiver_settings settings = {.bytes = 512 * 400, .ssrc = 2, .red_type = 116, .fec_type = 117, .transport_number = 3};
+    const uint8_t first[23] = {0x90, 96, 0, 8, 0, 0, 0, 9, 0, 0, 0, 2, 0xbe, 0xde, 0, 1, 0x31, 0, 0, 0, 'a', 'b', 'c'};
+    const uint8_t second[24] = {0x90, 96, 0, 9, 0, 0, 0, 9, 0, 0, 0, 2, 0xbe, 0xde, 0, 1, 0x40, 7, 0, 0, 'd', 'e', 'f', 'g'};
+    uint8_t fec[26 + 12] = {0x80, 117, 0, 10, 0, 0, 0, 9, 0, 0, 0, 2, 0, 0, 0, 8, 0, 0, 0, 0, 0, 11 ^ 12, 0, 12, 0xc0, 0};
+    uint8_t came[23], bytes[64];
+    size_t size = 0;
+    for (size_t i = 0; i < 12; i++) fec[26 + i] = (uint8_t)((i < 11 ? first[12 + i] : 0) ^ second[12 + i]);
+    memcpy(came, first, sizeof came);
+    came[17] = 0x12, came[18] = 0x34; /* the number that the pacer wrote */
+    cpay_fec_receiver receiver = CPAY_INIT;
+    CHECK(cpay_fec_receiver_new(&receiver, &settings) == CPAY_OK && cpay_fec_receiver_receive(&receiver, came, sizeof came) == CPAY_OK);
+    CHECK(cpay_fec_receiver_receive(&receiver, fec, sizeof fec) == CPAY_OK);
+    CHECK(cpay_fec_receiver_next(&receiver, bytes, sizeof bytes, &size) == CPAY_OK && size == sizeof second && !memcmp(bytes, second, sizeof second));
+    cpay_fec_receiver_free(&receiver);
+}
+
 /* Calls on handles that are empty or of another type, which change nothing. */
 static void handles(void) {
     union {
         cpay_packet_store store;
+        cpay_fec_receiver receiver;
         cpay_resend_limit limit;
     } it = {CPAY_INIT};
     const cpay_resend_limit_settings limits = {.share = 250};
@@ -227,6 +290,8 @@ static void handles(void) {
         if (kind == 1) CHECK(cpay_resend_limit_new(&it.limit, &limits) == CPAY_OK && cpay_packet_store_new(&it.store, 1) == CPAY_FULL);
         CHECK(cpay_packet_store_keep(&it.store, fec, fec_size) == status);
         CHECK(cpay_packet_store_rebuild(&it.store, 2, fec, fec_size, &byte, 1, &size) == status && size == 7 && byte == UNTOUCHED);
+        CHECK(cpay_fec_receiver_receive(&it.receiver, fec, fec_size) == status && cpay_fec_receiver_restart(&it.receiver) == status);
+        CHECK(cpay_fec_receiver_next(&it.receiver, &byte, 1, &size) == status && size == 7 && byte == UNTOUCHED);
     }
     cpay_packet_store_free(&it.store);
 }
@@ -274,6 +339,8 @@ int main(void) {
     feedback();
     feedback_written();
     rebuilds();
+    receives_fec();
+    late_elements();
     fec_faults();
     handles();
     hostile();

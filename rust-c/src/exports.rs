@@ -50,6 +50,7 @@ use crate::path::ccfb::CcfbInfo;
 use crate::path::ccfb::CcfbPacket;
 use crate::path::exchange::XrExchange;
 use crate::path::fec::FecInfo;
+use crate::path::fec_receiver::FecReceiverSettings;
 use crate::path::handle::PathHandle;
 use crate::path::path::PathChoice;
 use crate::path::path::PathLeaving;
@@ -467,6 +468,44 @@ unsafe extern "C" fn cpay_packet_store_rebuild(
         unsafe { from_raw_parts_mut(bytes, bytes_len) },
         size,
     )
+}
+
+#[unsafe(export_name = "proved_cpay_fec_receiver_new")]
+unsafe extern "C" fn cpay_fec_receiver_new(
+    handle: &mut PathHandle,
+    settings: &FecReceiverSettings,
+) -> u32 {
+    crate::calls::fec::cpay_fec_receiver_new(handle, settings)
+}
+
+#[unsafe(export_name = "proved_cpay_fec_receiver_receive")]
+unsafe extern "C" fn cpay_fec_receiver_receive(
+    handle: &mut PathHandle,
+    datagram: *const u8,
+    datagram_len: usize,
+) -> u32 {
+    crate::calls::fec::cpay_fec_receiver_receive(handle, unsafe {
+        from_raw_parts(datagram, datagram_len)
+    })
+}
+
+#[unsafe(export_name = "proved_cpay_fec_receiver_next")]
+unsafe extern "C" fn cpay_fec_receiver_next(
+    handle: &mut PathHandle,
+    bytes: *mut u8,
+    bytes_len: usize,
+    size: &mut usize,
+) -> u32 {
+    crate::calls::fec::cpay_fec_receiver_next(
+        handle,
+        unsafe { from_raw_parts_mut(bytes, bytes_len) },
+        size,
+    )
+}
+
+#[unsafe(export_name = "proved_cpay_fec_receiver_restart")]
+unsafe extern "C" fn cpay_fec_receiver_restart(handle: &mut PathHandle) -> u32 {
+    crate::calls::fec::cpay_fec_receiver_restart(handle)
 }
 
 #[unsafe(export_name = "proved_cpay_forwarder_settings_init")]

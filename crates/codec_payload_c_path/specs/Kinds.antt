@@ -3,6 +3,7 @@ use Rattle.std.specs.Prelude.{◌≡◌, ◌⊎◌, ℕ, Bool, true, false, Opti
 use Rattle.codec_payload_bandwidth_pacer.specs.Resending.{Limit}
 use Rattle.codec_payload_bandwidth_path.specs.Paths.{Path}
 use Rattle.codec_payload_fec.specs.Stores.{Store}
+use Rattle.codec_payload_c_path.specs.Held.{FecHeld, held_of}
 use Rattle.codec_payload_c_path.specs.declared.object.PathObject.{PathObject}
 use Rattle.codec_payload_c_path.specs.declared.object.PathObject.TheVariants as objects
 
@@ -33,6 +34,15 @@ abbrev pub OnStore : Option PathObject → (Store → Store → Type 0) → Opti
 OnStore (Some (objects.PacketStore r)) Does after = StaysStore (Does r.value) after
 OnStore _ Does after = Unit {0}
 
+-- the same for a receiver of FEC
+abbrev pub StaysFec : (FecHeld → Type 0) → Option PathObject → Type 0
+StaysFec Done (Some (objects.FecReceiver s)) = Done (held_of s.value)
+StaysFec Done _ = ⊥
+
+abbrev pub OnFec : Option PathObject → (FecHeld → FecHeld → Type 0) → Option PathObject → Type 0
+OnFec (Some (objects.FecReceiver r)) Does after = StaysFec (Does (held_of r.value)) after
+OnFec _ Does after = Unit {0}
+
 abbrev pub is_path : PathObject → Bool
 is_path (objects.Path _) = true
 is_path _ = false
@@ -44,6 +54,10 @@ is_limit _ = false
 abbrev pub is_store : PathObject → Bool
 is_store (objects.PacketStore _) = true
 is_store _ = false
+
+abbrev pub is_fec_receiver : PathObject → Bool
+is_fec_receiver (objects.FecReceiver _) = true
+is_fec_receiver _ = false
 
 -- status 34: the handle is empty; status 35: it holds another type; the handle is unchanged
 abbrev pub Refuses : (PathObject → Bool) → Option PathObject → ℕ → Option PathObject → Type 0

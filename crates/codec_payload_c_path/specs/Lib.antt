@@ -2,6 +2,8 @@ pub mod Bytes
 pub mod Ccfb
 pub mod Exchanges
 pub mod Fec
+pub mod FecReceivers
+pub mod Held
 pub mod Kinds
 pub mod Limits
 pub mod Owned

@@ -7,6 +7,7 @@ pub mod bytes;
 pub mod ccfb;
 pub mod exchange;
 pub mod fec;
+pub mod fec_receiver;
 pub mod handle;
 pub mod limit;
 pub mod loose;

@@ -4,8 +4,7 @@ use Rattle.std.specs.Prelude.{IfSome}
 use Rattle.codec_payload_fec.specs.Fec.{Fec, if_set, is_set, mask_of, number_at, numbers, numbers_in}
 use Rattle.codec_payload_fec.specs.Protecting.{AreOfStream, IsAmong, IsOfStream, Protects}
 use Rattle.codec_payload_fec.specs.Strings.{number_of}
-use Rattle.codec_payload_fec.specs.Writing.{IsOneOf, fecs}
-use Rattle.codec_payload_fec.proofs.WriterLemmas.{AreAmong, IsMade, made_in}
+use Rattle.codec_payload_fec.proofs.WriterLemmas.{AreAmong, made_in}
 use Rattle.codec_payload_fec_receiver.specs.OwnFec.{OwnFecIsMade, WereSentFrom}
 use Rattle.codec_payload_fec_receiver.specs.Runs.{IsMadeFrom, IsSender, WereSentNear}
 
@@ -41,7 +40,7 @@ module _ (sent : ℕ → Option (List ℕ)) where
   among_sent : (n : ℕ) (p : List ℕ) (qs : List (List ℕ)) → WereSentFrom sent n qs → IsAmong p qs → WasSentFrom n p
   among_sent n p [] were h = absurd h
   among_sent n p (q ∷ qs) were h =
-      elim h [ | inl is ↦ (were.0.0, were.0.1 ∙ ap (λ (bs : List ℕ). Some bs) (sym is), were.0.2, were.0.3) | inr later ↦ among_sent n p qs were.1 later ]
+      elim h [ inl is ↦ (were.0.0, were.0.1 ∙ ap (λ (bs : List ℕ). Some bs) (sym is), were.0.2, were.0.3) | inr later ↦ among_sent n p qs were.1 later ]
 
   all_from : (n : ℕ) (ps qs : List (List ℕ)) → WereSentFrom sent n qs → AreAmong ps qs → WereSentFrom sent n ps
   all_from n [] qs were are = tt

@@ -82,8 +82,8 @@ unfolding tried
 tries_first zero s = refl
 tries_first (suc n) s = due_first n s (first_due s.fecs) (tries_first n)
 
-fresh_first : (b : Bool) (s : State) → (cond b (tried 4 s).state s).first ≡ s.first
-fresh_first true s = tries_first 4 s
+fresh_first : (b : Bool) (s : State) → (cond b (tried 2 s).state s).first ≡ s.first
+fresh_first true s = tries_first 2 s
 fresh_first false s = refl
 
 after_first : (s : State) → (after_tries s).first ≡ s.first
@@ -97,8 +97,8 @@ handed_first : (o : Option ℕ) (s : State) → (handed_if o s).state.first ≡ 
 handed_first None s = refl
 handed_first (Some place) s = kept_first place s (rebuilt_by s (fec_at (fec_at_place place s).bytes))
 
-next_first : (b : Bool) (s : State) → (cond b (handed_if (tried 4 s).ready (tried 4 s).state) (record { packet = None; state = s })).state.first ≡ s.first
-next_first true s = handed_first (tried 4 s).ready (tried 4 s).state ∙ tries_first 4 s
+next_first : (b : Bool) (s : State) → (cond b (handed_if (tried 2 s).ready (tried 2 s).state) (record { packet = None; state = s })).state.first ≡ s.first
+next_first true s = handed_first (tried 2 s).ready (tried 2 s).state ∙ tries_first 2 s
 next_first false s = refl
 
 first_kept : (s : State) → (next_of s).state.first ≡ s.first
@@ -108,21 +108,21 @@ first_kept s = next_first s.is_fresh s
 
 module _ (sent : ℕ → Option (List ℕ)) where
   -- a packet that may be held while the window begins at a
-  abbrev IsHeld : ℕ → List ℕ → Type 0
+  abbrev pub IsHeld : ℕ → List ℕ → Type 0
   IsHeld a p = (n : ℕ) × (sent n ≡ Some p) × (a ≤ n + 8192) × (n < a + 40960)
 
-  abbrev IsMade : ℕ → Result Fec FecFault → Type 0
+  abbrev pub IsMade : ℕ → Result Fec FecFault → Type 0
   IsMade a (Ok f) = (n : ℕ) × (a ≤ n) × (n < a + 32768) × IsMadeFrom sent n f
   IsMade a (Err fault) = Unit {0}
 
-  abbrev AllMade : ℕ → List OpenFec → Type 0
+  abbrev pub AllMade : ℕ → List OpenFec → Type 0
   AllMade a [] = Unit {0}
   AllMade a (o ∷ os) = IsMade a (fec_at o.bytes) × AllMade a os
 
-  record Holds (ss : FecSettings) (a : ℕ) (s : State) : Type 0 where
-    settings : s.settings ≡ ss
-    held : (n : ℕ) → IfSome (found_in s.store.slots n) (IsHeld a)
-    fecs : AllMade a s.fecs
+  pub record Holds (ss : FecSettings) (a : ℕ) (s : State) : Type 0 where
+    pub settings : s.settings ≡ ss
+    pub held : (n : ℕ) → IfSome (found_in s.store.slots n) (IsHeld a)
+    pub fecs : AllMade a s.fecs
 
   -- ---- packets are kept
 
@@ -246,8 +246,8 @@ module _ (sent : ℕ → Option (List ℕ)) where
   after_holds : (ss : FecSettings) (a : ℕ) (s : State) → Holds ss a s → Holds ss a (after_tries s)
   after_holds ss a s h = by_fresh s.is_fresh
     where
-      by_fresh : (b : Bool) → Holds ss a (cond b (tried 4 s).state s)
-      by_fresh true = tried_holds ss a 4 s h
+      by_fresh : (b : Bool) → Holds ss a (cond b (tried 2 s).state s)
+      by_fresh true = tried_holds ss a 2 s h
       by_fresh false = h
 
   -- ---- packets are handed out
@@ -275,22 +275,22 @@ module _ (sent : ℕ → Option (List ℕ)) where
           let packet = rebuilt_by_held ss a t (fec_at (fec_at_place place t).bytes) is made ht in
           record { packet = packet; holds = handed_holds ss a place t (rebuilt_by t (fec_at (fec_at_place place t).bytes)) packet ht }
 
-      by_fresh : (b : Bool) → Hands ss a (cond b (handed_if (tried 4 s).ready (tried 4 s).state) (record { packet = None; state = s })).packet (cond b (handed_if (tried 4 s).ready (tried 4 s).state) (record { packet = None; state = s })).state
-      by_fresh true = if_ready (tried 4 s).ready (tried 4 s).state (tried_holds ss a 4 s h)
+      by_fresh : (b : Bool) → Hands ss a (cond b (handed_if (tried 2 s).ready (tried 2 s).state) (record { packet = None; state = s })).packet (cond b (handed_if (tried 2 s).ready (tried 2 s).state) (record { packet = None; state = s })).state
+      by_fresh true = if_ready (tried 2 s).ready (tried 2 s).state (tried_holds ss a 2 s h)
       by_fresh false = record { packet = tt; holds = h }
 
   -- ---- a datagram
 
-  record Placed (ss : FecSettings) (h : ℕ) (s : State) : Type 0 where
-    a : ℕ
-    low : a ≤ h
-    high : h < a + 32768
-    early : 65536 ≤ h
-    first : s.first ≡ a % 65536
-    holds : Holds ss a s
+  pub record Placed (ss : FecSettings) (h : ℕ) (s : State) : Type 0 where
+    pub a : ℕ
+    pub low : a ≤ h
+    pub high : h < a + 32768
+    pub early : 65536 ≤ h
+    pub first : s.first ≡ a % 65536
+    pub holds : Holds ss a s
 
   -- before the first packet it holds nothing, so any window will do
-  abbrev Stands : FecSettings → Option ℕ → State → Type 0
+  abbrev pub Stands : FecSettings → Option ℕ → State → Type 0
   Stands ss None s = (s.first < 65536) × ((a : ℕ) → Holds ss a s)
   Stands ss (Some h) s = Placed ss h s
 
@@ -397,7 +397,7 @@ module _ (sent : ℕ → Option (List ℕ)) where
       let By : ℕ → Type 0 = λ n. Placed ss en.highest (with_small (leb (length bytes - 6) s.store.largest) bytes (entered n s)) in
       stands_at ss en.highest after (took_fec bytes (Ok f) s) (is.raises ∙ en.is) (subst By (sym is.is_made.base) kept)
 
-  settings_stand : (ss : FecSettings) (top : Option ℕ) (s : State) → Stands ss top s → s.settings ≡ ss
+  pub settings_stand : (ss : FecSettings) (top : Option ℕ) (s : State) → Stands ss top s → s.settings ≡ ss
   settings_stand ss None s h = (h.1 0).settings
   settings_stand ss (Some highest) s h = h.holds.settings
 
@@ -406,14 +406,14 @@ module _ (sent : ℕ → Option (List ℕ)) where
   took_stands ss (Media p) before after s is h = media_stands ss p before after s (settings_stand ss before s h) is h
   took_stands ss (FecIn bytes) before after s is h = fec_stands ss bytes (fec_at bytes) before after s refl is h
 
-  received_stands : (ss : FecSettings) (datagram : List ℕ) (before after : Option ℕ) (s : State) → IsOfSender ss sent (content_of ss (rtp_at datagram)) before after → Stands ss before s → Stands ss after (received datagram s)
+  pub received_stands : (ss : FecSettings) (datagram : List ℕ) (before after : Option ℕ) (s : State) → IsOfSender ss sent (content_of ss (rtp_at datagram)) before after → Stands ss before s → Stands ss after (received datagram s)
   received_stands ss datagram before after s is h =
       let By : FecSettings → Type 0 = λ settings. Stands ss after (took (content_of settings (rtp_at datagram)) s) in
       fresh_stands ss after (took (content_of s.settings (rtp_at datagram)) s) (subst By (sym (settings_stand ss before s h)) (took_stands ss (content_of ss (rtp_at datagram)) before after s is h))
 
   -- ---- calls
 
-  next_stands : (ss : FecSettings) (top : Option ℕ) (s : State) → IsSender ss.ssrc sent → Stands ss top s → Stands ss top (next_of s).state
+  pub next_stands : (ss : FecSettings) (top : Option ℕ) (s : State) → IsSender ss.ssrc sent → Stands ss top s → Stands ss top (next_of s).state
   next_stands ss None s is h = (let P : ℕ → Type 0 = λ n. n < 65536 in subst P (sym (first_kept s)) h.0, λ a. (next_holds ss a s is (h.1 a)).holds)
   next_stands ss (Some highest) s is h =
       record { a = h.a; low = h.low; high = h.high; early = h.early; first = first_kept s ∙ h.first; holds = (next_holds ss h.a s is h.holds).holds }
@@ -426,7 +426,7 @@ module _ (sent : ℕ → Option (List ℕ)) where
   packet_sent a None h = tt
   packet_sent a (Some p) h = ((h.0, h.1), tt)
 
-  next_sent : (ss : FecSettings) (top : Option ℕ) (s : State) → IsSender ss.ssrc sent → Stands ss top s → WereSent sent (to_list (next_of s).packet)
+  pub next_sent : (ss : FecSettings) (top : Option ℕ) (s : State) → IsSender ss.ssrc sent → Stands ss top s → WereSent sent (to_list (next_of s).packet)
   next_sent ss None s is h = packet_sent 0 (next_of s).packet (next_holds ss 0 s is (h.1 0)).packet
   next_sent ss (Some highest) s is h = packet_sent h.a (next_of s).packet (next_holds ss h.a s is h.holds).packet
 
@@ -448,5 +448,34 @@ nothing_holds sent a s h = record {
   fecs = let P : List OpenFec → Type 0 = λ os. AllMade sent a os in subst P (sym h.no_fecs) tt;
 }
 
+pub nothing_stands : (sent : ℕ → Option (List ℕ)) (s : State) → HoldsNothing s → Stands sent s.settings None s
+nothing_stands sent s h = (h.is_number, λ a. nothing_holds sent a s h)
+
 pub handed_out_was_sent : HandedOutWasSent
 handed_out_was_sent sent s calls is h are = all_sent sent s.settings None calls s is (h.is_number, λ a. nothing_holds sent a s h) are
+
+-- ---- more is sent
+
+module _ (sent sent' : ℕ → Option (List ℕ)) (more : (n : ℕ) (p : List ℕ) → sent n ≡ Some p → sent' n ≡ Some p) where
+  if_more : (a : ℕ) (o : Option (List ℕ)) → IfSome o (IsHeld sent a) → IfSome o (IsHeld sent' a)
+  if_more a None h = tt
+  if_more a (Some p) h = (h.0, more h.0 p h.1, h.2, h.3)
+
+  near_more : (n : ℕ) (ps : List (List ℕ)) → WereSentNear sent n ps → WereSentNear sent' n ps
+  near_more n [] h = tt
+  near_more n (p ∷ ps) h = ((h.0.0, more h.0.0 p h.0.1, h.0.2, h.0.3), near_more n ps h.1)
+
+  made_more : (a : ℕ) (r : Result Fec FecFault) → IsMade sent a r → IsMade sent' a r
+  made_more a (Err fault) h = tt
+  made_more a (Ok f) h = (h.0, h.1, h.2, record { base = h.3.base; packets = h.3.packets; protects = h.3.protects; were_sent = near_more h.0 h.3.packets h.3.were_sent })
+
+  all_more : (a : ℕ) (os : List OpenFec) → AllMade sent a os → AllMade sent' a os
+  all_more a [] h = tt
+  all_more a (o ∷ os) h = (made_more a (fec_at o.bytes) h.0, all_more a os h.1)
+
+  holds_more : (ss : FecSettings) (a : ℕ) (s : State) → Holds sent ss a s → Holds sent' ss a s
+  holds_more ss a s h = record { settings = h.settings; held = λ n. if_more a (found_in s.store.slots n) (h.held n); fecs = all_more a s.fecs h.fecs }
+
+  pub stands_more : (ss : FecSettings) (top : Option ℕ) (s : State) → Stands sent ss top s → Stands sent' ss top s
+  stands_more ss None s h = (h.0, λ a. holds_more ss a s (h.1 a))
+  stands_more ss (Some highest) s h = record { a = h.a; low = h.low; high = h.high; early = h.early; first = h.first; holds = holds_more ss h.a s h.holds }

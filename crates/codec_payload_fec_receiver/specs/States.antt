@@ -157,9 +157,9 @@ abbrev pub handed_if : Option ℕ → State → Handed
 handed_if None s = record { packet = None; state = stale s }
 handed_if (Some place) s = handed_at place s (rebuilt_by s (fec_at (fec_at_place place s).bytes))
 
--- at most one packet for each datagram, and at most four packets of FEC are tried
+-- at most one packet for each datagram, and at most two packets of FEC are tried
 abbrev pub after_tries : State → State
-after_tries s = if s.is_fresh then (tried 4 s).state else s
+after_tries s = if s.is_fresh then (tried 2 s).state else s
 
 abbrev pub next_of : State → Handed
-next_of s = if s.is_fresh then handed_if (tried 4 s).ready (tried 4 s).state else record { packet = None; state = s }
+next_of s = if s.is_fresh then handed_if (tried 2 s).ready (tried 2 s).state else record { packet = None; state = s }

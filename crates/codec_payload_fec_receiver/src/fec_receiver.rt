@@ -25,7 +25,7 @@ use std::marker::Model;
 const OPEN: usize = 64;
 
 /// How many packets of FEC are tried for a datagram.
-const TRIES: usize = 4;
+const TRIES: usize = 2;
 
 /// A packet of FEC that is held.
 #[derive(Debug, Drop)]
@@ -374,7 +374,7 @@ impl FecReceiver {
     /// Returns a packet that was rebuilt: a whole RTP packet, as it was before RED. It is kept, and can help to rebuild others. `None`: no
     /// packet can be rebuilt now.
     ///
-    /// For each datagram it tries at most four packets of FEC and rebuilds at most one packet; it goes on after the next datagram.
+    /// For each datagram it tries at most two packets of FEC and rebuilds at most one packet; it goes on after the next datagram.
     ///
     /// # Errors
     ///

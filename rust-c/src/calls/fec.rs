@@ -5,6 +5,7 @@
 use crate::handle::status;
 use crate::memory::One;
 use crate::path::fec::{FecInfo, keep, read, rebuild};
+use crate::path::fec_receiver::{FecReceiverSettings, new_receiver, next, restart, take};
 use crate::path::handle::PathHandle;
 use crate::path::object::PathObject;
 use codec_payload::fec::store::PacketStore;
@@ -61,6 +62,69 @@ pub fn cpay_packet_store_rebuild(
     };
     let answer = match &mut *object {
         PathObject::PacketStore(store) => rebuild(store, (ssrc, fec), bytes, size),
+        _ => status::OTHER_KIND,
+    };
+    handle.put(object);
+    answer
+}
+
+/// Creates a receiver of FEC that holds nothing in an empty handle.
+pub fn cpay_fec_receiver_new(handle: &mut PathHandle, settings: &FecReceiverSettings) -> u32 {
+    if let Some(object) = handle.take() {
+        handle.put(object);
+        return status::FULL;
+    }
+    let Ok(receiver) = new_receiver(settings) else {
+        return status::OUT_OF_MEMORY;
+    };
+    let Ok(receiver) = One::try_new(receiver) else {
+        return status::OUT_OF_MEMORY;
+    };
+    match One::try_new(PathObject::FecReceiver(receiver)) {
+        Ok(object) => {
+            handle.put(object);
+            status::OK
+        }
+        Err(_) => status::OUT_OF_MEMORY,
+    }
+}
+
+/// Takes a datagram of the stream.
+pub fn cpay_fec_receiver_receive(handle: &mut PathHandle, datagram: &[u8]) -> u32 {
+    let Some(mut object) = handle.take() else {
+        return status::EMPTY;
+    };
+    let answer = match &mut *object {
+        PathObject::FecReceiver(receiver) => take(receiver, datagram),
+        _ => status::OTHER_KIND,
+    };
+    handle.put(object);
+    answer
+}
+
+/// Writes the next packet that was rebuilt to the output buffer.
+pub fn cpay_fec_receiver_next(handle: &mut PathHandle, bytes: &mut [u8], size: &mut usize) -> u32 {
+    let Some(mut object) = handle.take() else {
+        return status::EMPTY;
+    };
+    let answer = match &mut *object {
+        PathObject::FecReceiver(receiver) => next(receiver, bytes, size),
+        _ => status::OTHER_KIND,
+    };
+    handle.put(object);
+    answer
+}
+
+/// Drops all packets: another sender begins.
+pub fn cpay_fec_receiver_restart(handle: &mut PathHandle) -> u32 {
+    let Some(mut object) = handle.take() else {
+        return status::EMPTY;
+    };
+    let answer = match &mut *object {
+        PathObject::FecReceiver(receiver) => {
+            restart(receiver);
+            status::OK
+        }
         _ => status::OTHER_KIND,
     };
     handle.put(object);

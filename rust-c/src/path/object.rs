@@ -7,6 +7,7 @@ use alloc::vec::Vec;
 use codec_payload::bandwidth::chooser::LayerChoice;
 use codec_payload::bandwidth::path::ViewerPath;
 use codec_payload::bandwidth::resends::ResendLimit;
+use codec_payload::fec::fec_receiver::FecReceiver;
 use codec_payload::fec::store::PacketStore;
 
 /// A path to a viewer, and memory for the choices of layers of a call; it is reused.
@@ -16,10 +17,18 @@ pub struct CallerPath {
     pub choices: Vec<LayerChoice>,
 }
 
+/// A receiver of FEC, and a packet that it handed out and that the caller has not fetched yet.
+#[derive(Debug)]
+pub struct CallerFec {
+    pub receiver: FecReceiver,
+    pub packet: Option<Vec<u8>>,
+}
+
 /// A value behind a handle. Each has its own box, so that no handle takes the memory of the largest type.
 #[derive(Debug)]
 pub enum PathObject {
     Path(One<CallerPath>),
     ResendLimit(One<ResendLimit>),
     PacketStore(One<PacketStore>),
+    FecReceiver(One<CallerFec>),
 }
