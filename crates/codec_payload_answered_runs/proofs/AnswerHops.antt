@@ -10,7 +10,7 @@ use Rattle.codec_payload_sending_history.specs.declared.retransmission.Resent.{R
 use Rattle.codec_payload_sending_history.specs.declared.retransmission.Resent.TheVariants as results
 use Rattle.codec_payload_datagram_runs.proofs.StepLemmas.{get_append}
 use Rattle.codec_payload_datagram_runs.specs.HistoryReleases.{latest_with, repeated_by, sends_by, sent_by}
-use Rattle.codec_payload_datagram_runs.specs.Releases.{sends_after, sent_after}
+use Rattle.codec_payload_datagram_runs.specs.Releases.{sent_after}
 use Rattle.codec_payload_datagram_runs.specs.declared.history_run.HistoryStep.TheVariants as history_steps
 use Rattle.codec_payload_datagram_runs.specs.declared.run.DatagramStep.{DatagramStep}
 use Rattle.codec_payload_datagram_runs.specs.declared.run.DatagramStep.TheVariants as steps
