@@ -7,3 +7,4 @@ pub mod AskedCourses
 pub mod ServedGaps
 pub mod AnsweredCourses
 pub mod AnswerHops
+pub mod AnsweredLemmas

@@ -1,5 +1,6 @@
 //! Theorems on runs whose lost packets come back. These functions exist for their proofs and do nothing.
 
+ghost use Rattle.codec_payload_answered_runs.specs.AnsweredRequests.{RequestsAreAnswered};
 ghost use Rattle.codec_payload_answered_runs.specs.AnsweredRuns.{AnswersFillGaps, AnswersServe, LostPacketsComeBack};
 ghost use Rattle.codec_payload_answered_runs.specs.AskedRuns.{RequestsFillGaps};
 ghost use Rattle.codec_payload_answered_runs.specs.FilledGaps.{FilledGapsLoseNone, FilledGapsLoseNoneWithHistory};
@@ -14,6 +15,12 @@ pub fn requests_are_repeated()
 {
     nack_schedules_keep_their_settings();
 }
+
+/// A history with the interval 0 answers each request for one of the last datagrams, as many as its limit, and the answer repeats this
+/// datagram.
+pub fn requests_are_answered()
+    ensures { RequestsAreAnswered }
+{}
 
 /// If each gap is filled before a frame behind it is due, the pops of a run over datagrams return each unit, whole and in turn, and in
 /// time. So it is with retransmissions, too.

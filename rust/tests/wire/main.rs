@@ -1,5 +1,6 @@
 //! Whole runs of a sender and a receiver whose datagrams are lost, duplicated or reordered: the popped units are the sent ones.
 
+mod come_back;
 mod forwarded;
 mod forwarded_again;
 mod forwarded_ids;
