@@ -219,7 +219,7 @@ abbrev empty_history : HistorySettings → Past
 empty_history s = record { limit = s.limit; interval = s.interval; stream = s.stream; next = first_of s.stream; newest = 0; refused = None; packets = [] }
 
 -- the settings of a new history
-of_settings : (settings : HistorySettings) (h : Past) → history_by settings ≡ Ok h → (h.limit ≡ settings.limit) × (h.interval ≡ settings.interval)
+pub of_settings : (settings : HistorySettings) (h : Past) → history_by settings ≡ Ok h → (h.limit ≡ settings.limit) × (h.interval ≡ settings.interval)
 of_settings settings h new =
     let a = not_failed (eqb settings.limit 0 || ltb 32768 settings.limit) errors.Limit _ h new in
     let b = not_failed (not (stream_fits settings.stream)) errors.PayloadType _ h a.1 in
