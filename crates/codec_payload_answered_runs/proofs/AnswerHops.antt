@@ -15,7 +15,7 @@ use Rattle.codec_payload_datagram_runs.specs.declared.history_run.HistoryStep.Th
 use Rattle.codec_payload_datagram_runs.specs.declared.run.DatagramStep.{DatagramStep}
 use Rattle.codec_payload_datagram_runs.specs.declared.run.DatagramStep.TheVariants as steps
 use Rattle.codec_payload_datagram_runs.specs.declared.run.SentSample.{SentSample}
-use Rattle.codec_payload_answered_runs.specs.AnsweredRuns.{AnsweredRuns, AnsweredStep, Answering, AnswersRequests, AnswersServe, Arrives, GetsThrough, IsAnswered, Links, LostPacketsComeBack, Notes, OneGetsThrough, OneIsAnswered, Polls, asked_steps, asked_steps_of, asking_of, begins_answering, delivery_before, heard_of, links_of, written_by}
+use Rattle.codec_payload_answered_runs.specs.AnsweredRuns.{AnsweredRuns, AnsweredStep, Answering, AnswersRequests, AnswersServe, Arrives, GetsThrough, IsAnswered, Links, LostPacketsComeBack, Notes, OneGetsThrough, OneIsAnswered, Polls, asked_steps, asked_steps_of, asking_of, begins_answering, delivery_before, heard_by, links_of, written_by}
 use Rattle.codec_payload_datagram_runs.specs.HistoryRuns.{DoesHistoryStep, HistoryRuns, Resending}
 use Rattle.codec_payload_answered_runs.proofs.AnsweredCourses.{answers_fill_gaps}
 use Rattle.codec_payload_answered_runs.proofs.AnsweredLemmas.{of_settings, requests_are_answered}
@@ -255,14 +255,14 @@ links_run samples (Notes now heard ∷ later) s t run =
 
 serves_all : (first slack delay k size : ℕ) (samples : List Sample) (all_steps : List AnsweredStep) (s t : Answering)
     → AllAnswered s.link.wire.sending.stream.number s.link.history.limit samples 0 (links_of all_steps) t.link.wire.sends t.link.answers → AnswersRequests first slack delay k size samples all_steps s t
-    → ServesRequests first slack (delay + delay) k size (heard_of samples all_steps s t) t.asked
+    → ServesRequests first slack (delay + delay) k size (heard_by s.link.wire.sending.stream.number samples all_steps t.link.wire.sends t.link.answers) t.asked
 serves_all first slack delay k size samples all_steps s t all is = record {
   times = is.times;
   asks = is.asks;
   begins = is.begins;
   first_unit = is.first_unit;
   serves = λ j. answers_serve s.link.wire.sending.stream.number first samples j delay k all_steps t.link.wire.sends t.link.answers t.asked
-      (one_answered s.link.wire.sending.stream.number s.link.history.limit samples first j delay k 0 0 all_steps t.link.wire.sends t.link.answers t.asked all (is.answers j));
+      (one_answered s.link.wire.sending.stream.number s.link.history.limit samples first j delay k 0 0 all_steps t.link.wire.sends t.link.answers t.asked all (is.gets_through j));
 }
 
 pub lost_packets_come_back : Exact → OnTime → LostPacketsComeBack

@@ -1,12 +1,11 @@
 -- A history has the last datagrams, as many as its limit, so it answers requests for them.
-use Rattle.std.proofs.Common.{◌≡◌, ◌∙◌, refl, sym, ap, subst, ℕ, zero, suc, ◌+◌, ◌-◌, ◌%◌, ◌<◌, ◌≤◌, ◌⊎◌, ◌||◌, not, cond, eqb, inl, inr, Bool, true, false, List, [], ◌∷◌, ◌++◌, Option, Some, None, Result, Ok, Err, MatchOption, arith, append-nil, append_assoc, length, ltb, min, take}
+use Rattle.std.proofs.Common.{◌≡◌, ◌∙◌, refl, sym, ap, subst, ℕ, zero, suc, ◌+◌, ◌-◌, ◌%◌, ◌<◌, ◌≤◌, ◌⊎◌, ◌||◌, not, cond, eqb, inl, inr, Bool, true, false, List, [], ◌∷◌, ◌++◌, Option, Some, None, Result, Ok, Err, MatchOption, arith, append-nil, append_assoc, length, ltb, min}
 use Rattle.std.specs.Prelude.{slice_get}
 use Rattle.std.proofs.lemmas.Bool.{le-ltb}
 use Rattle.std.proofs.lemmas.List.{length-append, length-set, length-take}
 use Rattle.std.proofs.lemmas.Option.{same_Some}
 use Rattle.codec_payload_base.specs.declared.wire.Ticks.{Ticks}
 use Rattle.codec_payload_payloader.specs.Sending.{Sample}
-use Rattle.codec_payload_sending.specs.Senders.{Sending}
 use Rattle.codec_payload_sending_history.proofs.HeldLemmas.{keeps_next}
 use Rattle.codec_payload_sending_history.specs.Histories.{Resends, first_of, history_by, is_too_soon}
 use Rattle.codec_payload_sending_history.specs.Packets.{Past, Sent, number_in, stream_fits}
@@ -16,7 +15,7 @@ use Rattle.codec_payload_sending_history.specs.declared.retransmission.Resent.{R
 use Rattle.codec_payload_sending_history.specs.declared.retransmission.Resent.TheVariants as results
 use Rattle.codec_payload_sending_history.specs.declared.retransmission.RetransmissionStream.{RetransmissionStream}
 use Rattle.codec_payload_receiver.specs.Sessions.{Session}
-use Rattle.codec_payload_datagram_runs.proofs.RepeatLemmas.{AreLatest, From, IsNewest, IsOf, advanced, advanced_append, follows, from_append, from_same, grows, keeps_all, new_history, new_is, newest_stays, resends_copy}
+use Rattle.codec_payload_datagram_runs.proofs.RepeatLemmas.{AreLatest, From, IsNewest, IsOf, advanced, follows, from_append, from_same, grows, keeps_all, new_history, new_is, newest_stays, resends_copy}
 use Rattle.codec_payload_datagram_runs.specs.HistoryReleases.{latest_with, sends_by}
 use Rattle.codec_payload_datagram_runs.specs.HistoryRuns.{HistoryRuns, KeepsAll, Resending, begins_with, sent_since, written}
 use Rattle.codec_payload_datagram_runs.specs.WireRuns.{Delivers, DoesStep, Receipt, Wire}

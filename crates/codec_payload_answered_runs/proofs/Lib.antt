@@ -8,3 +8,4 @@ pub mod ServedGaps
 pub mod AnsweredCourses
 pub mod AnswerHops
 pub mod AnsweredLemmas
+pub mod ComeBackExamples

@@ -190,18 +190,24 @@ AnswersFillGaps =
     → IsWithinWindows samples (plain_of (asked_steps_of samples all_steps (begins_answering sender history receiver settings) t)) sender receiver t.link.wire.sends
     → FillsGaps samples (asked_steps_of samples all_steps (begins_answering sender history receiver settings) t) settings (asking_of (begins_answering sender history receiver settings)) (asking_of t)
 
--- the steps of the receiver of a run
-abbrev pub heard_of : List Sample → List AnsweredStep → Answering → Answering → List AskedStep
-heard_of samples all_steps s t = heard_steps samples 0 (asked_steps_of samples all_steps s t) t.link.wire.sends
+-- the steps of the receiver
+abbrev pub heard_by : (number : ℕ) → List Sample → List AnsweredStep → List SentSample → List Resent → List AskedStep
+heard_by number samples all_steps sends answers = heard_steps samples 0 (asked_steps number samples 0 [] all_steps sends answers) sends
 
--- the network, and when it is polled: times do not fall; the schedule is polled in time; the first datagram comes first, and the first unit
--- before others; and of the first k + 1 requests for each datagram, at most k, or their answers, are lost
-pub record AnswersRequests (first slack delay k size : ℕ) (samples : List Sample) (all_steps : List AnsweredStep) (s t : Answering) : Type 0 where
-  pub times : TimesRise 0 (heard_of samples all_steps s t)
-  pub asks : AsksInTime slack None (heard_of samples all_steps s t) t.asked
-  pub begins : BeginsAt0 (delivered (plain_of (heard_of samples all_steps s t)))
-  pub first_unit : FirstComesFirst size [] (heard_of samples all_steps s t)
-  pub answers : (j : ℕ) → OneGetsThrough s.link.wire.sending.stream.number s.link.history.limit first samples j delay k 0 0 all_steps t.link.wire.sends t.link.answers t.asked
+-- The network, and when it is polled: times do not fall; the schedule is polled in time; the first datagram comes first, and the first
+-- unit before others; and of the first k + 1 requests for each datagram, at most k, or their answers, are lost. A request and an answer
+-- that is not lost arrives within the delay
+pub record IsKind (number limit first slack delay k size : ℕ) (samples : List Sample) (all_steps : List AnsweredStep) (sends : List SentSample) (answers : List Resent) (asked : List Asked) : Type 0 where
+  pub times : TimesRise 0 (heard_by number samples all_steps sends answers)
+  pub asks : AsksInTime slack None (heard_by number samples all_steps sends answers) asked
+  pub begins : BeginsAt0 (delivered (plain_of (heard_by number samples all_steps sends answers)))
+  pub first_unit : FirstComesFirst size [] (heard_by number samples all_steps sends answers)
+  pub gets_through : (j : ℕ) → OneGetsThrough number limit first samples j delay k 0 0 all_steps sends answers asked
+
+-- of a run
+abbrev pub AnswersRequests : (first slack delay k size : ℕ) → List Sample → List AnsweredStep → Answering → Answering → Type 0
+AnswersRequests first slack delay k size samples all_steps s t =
+    IsKind s.link.wire.sending.stream.number s.link.history.limit first slack delay k size samples all_steps t.link.wire.sends t.link.answers t.asked
 
 -- Lost, requested, answered, whole: the pops return the units in turn, from the first one that was sent on, each whole and none left
 -- out; and each in time, if pops come until None after each delivery and at each deadline

@@ -3,3 +3,4 @@ pub mod Repeats
 pub mod AskedRuns
 pub mod AnsweredRuns
 pub mod AnsweredRequests
+pub mod ComeBackExample

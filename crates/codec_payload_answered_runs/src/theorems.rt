@@ -3,6 +3,7 @@
 ghost use Rattle.codec_payload_answered_runs.specs.AnsweredRequests.{RequestsAreAnswered};
 ghost use Rattle.codec_payload_answered_runs.specs.AnsweredRuns.{AnswersFillGaps, AnswersServe, LostPacketsComeBack};
 ghost use Rattle.codec_payload_answered_runs.specs.AskedRuns.{RequestsFillGaps};
+ghost use Rattle.codec_payload_answered_runs.specs.ComeBackExample.{AnswersCanBeMet};
 ghost use Rattle.codec_payload_answered_runs.specs.FilledGaps.{FilledGapsLoseNone, FilledGapsLoseNoneWithHistory};
 ghost use Rattle.codec_payload_answered_runs.specs.Repeats.{RequestsAreRepeated};
 
@@ -48,3 +49,9 @@ pub fn lost_packets_come_back()
 {
     nack_schedules_keep_their_settings();
 }
+
+/// The premises can be met: of three datagrams of Opus the second is lost, and the first request for it too. The second request is
+/// answered, and the answer arrives before the third datagram is due.
+pub fn answers_can_be_met()
+    ensures { AnswersCanBeMet }
+{}

@@ -259,14 +259,13 @@ fn run_of(
     random: &mut Random,
     loses: &mut dyn FnMut(usize, &mut Random) -> Option<u64>,
 ) -> Result<(Vec<HistoryStep>, Vec<(u64, Vec<u8>)>), Fail> {
-    let settings = NackSettings {
-        first_wait: FIRST_WAIT,
-        retry: RETRY,
-        shortest_retry: RETRY,
-        longest_retry: RETRY,
-        tries: case.k + 1,
-        capacity: 4_096,
-    };
+    let mut settings = NackSettings::live();
+    settings.first_wait = FIRST_WAIT;
+    settings.retry = RETRY;
+    settings.shortest_retry = RETRY;
+    settings.longest_retry = RETRY;
+    settings.tries = case.k + 1;
+    settings.capacity = 4_096;
     let mut scene = Scene {
         case,
         link: link_of(case)?,
