@@ -14,9 +14,7 @@ use codec_payload::history::{
 use codec_payload::jitter::jitter_buffer::WaitLimits;
 use codec_payload::requests::NackSettings;
 use codec_payload::rtcp::compound::CompoundRule;
-use codec_payload::schedule::datagrams::{
-    DatagramStep, HistoryStep, Link, run_with_history,
-};
+use codec_payload::schedule::datagrams::{DatagramStep, HistoryStep, Link, run_with_history};
 use codec_payload::sender::Sample;
 use codec_payload::stream::Popped;
 use codec_payload::stream::receiver::{Receiver, Retransmission};
@@ -170,7 +168,14 @@ impl Scene<'_> {
         self.ask(time, random)
     }
 
-    fn happen(&mut self, time: u64, it: Happening, samples: &[ToPayload], random: &mut Random, loses: &mut dyn FnMut(usize, &mut Random) -> Option<u64>) -> Result<(), Fail> {
+    fn happen(
+        &mut self,
+        time: u64,
+        it: Happening,
+        samples: &[ToPayload],
+        random: &mut Random,
+        loses: &mut dyn FnMut(usize, &mut Random) -> Option<u64>,
+    ) -> Result<(), Fail> {
         let now = Ticks(time);
         match it {
             Happening::Send(index) => {
@@ -183,7 +188,9 @@ impl Scene<'_> {
                     ext_vals: sample.ext_vals,
                 })?;
                 let places = 0..self.link.sender.len();
-                let sent: Vec<_> = places.map(|it| self.link.sender.datagram(it).to_vec()).collect();
+                let sent: Vec<_> = places
+                    .map(|it| self.link.sender.datagram(it).to_vec())
+                    .collect();
                 for datagram in sent {
                     self.link.history.keep(&datagram)?;
                     if let Some(delay) = loses(self.datagrams.len(), random) {
@@ -200,7 +207,10 @@ impl Scene<'_> {
             Happening::Request(number) => {
                 self.steps.push(HistoryStep::Resend { number, now });
                 let mut bytes = Vec::new();
-                assert_eq!(self.link.history.resend(now, number, &mut bytes)?, Resent::Written);
+                assert_eq!(
+                    self.link.history.resend(now, number, &mut bytes)?,
+                    Resent::Written
+                );
                 // the answer of a request that is in vain is lost
                 let first = self.requested[&number] <= self.case.in_vain;
                 if !first {
@@ -214,7 +224,9 @@ impl Scene<'_> {
                     retransmission,
                     now,
                 });
-                self.link.receiver.receive(now, &self.retransmissions[retransmission])?;
+                self.link
+                    .receiver
+                    .receive(now, &self.retransmissions[retransmission])?;
                 self.after_arrival(time, random)?;
             }
         }
@@ -222,7 +234,12 @@ impl Scene<'_> {
     }
 
     /// All that happens, with pops and requests at each deadline.
-    fn play(&mut self, samples: &[ToPayload], random: &mut Random, loses: &mut dyn FnMut(usize, &mut Random) -> Option<u64>) -> Result<(), Fail> {
+    fn play(
+        &mut self,
+        samples: &[ToPayload],
+        random: &mut Random,
+        loses: &mut dyn FnMut(usize, &mut Random) -> Option<u64>,
+    ) -> Result<(), Fail> {
         loop {
             let next = self.queue.peek().map(|it| it.0.0);
             match (next, self.deadline()) {
@@ -288,14 +305,32 @@ fn run_of(
 
 /// Whether the popped units are all frames, whole and in turn.
 fn are_all(popped: &[(u64, Vec<u8>)], samples: &[ToPayload]) -> bool {
-    popped.iter().map(|it| &it.1).eq(samples.iter().map(|it| &it.bytes))
+    popped
+        .iter()
+        .map(|it| &it.1)
+        .eq(samples.iter().map(|it| &it.bytes))
 }
 
 /// The proved run of the same steps pops the same units.
-fn runs_alike(case: &Case, samples: &[ToPayload], steps: &[HistoryStep], popped: &[(u64, Vec<u8>)]) -> Result<(), Fail> {
+fn runs_alike(
+    case: &Case,
+    samples: &[ToPayload],
+    steps: &[HistoryStep],
+    popped: &[(u64, Vec<u8>)],
+) -> Result<(), Fail> {
     let run = run_with_history(&mut link_of(case)?, samples, steps)?;
-    let units: Vec<_> = run.run.pops.iter().flatten().map(|it| it.as_ref().map(|unit| unit.bytes.clone())).collect::<Result<_, _>>().map_err(|_| "a fault")?;
-    assert_eq!(units, popped.iter().map(|it| it.1.clone()).collect::<Vec<_>>());
+    let units: Vec<_> = run
+        .run
+        .pops
+        .iter()
+        .flatten()
+        .map(|it| it.as_ref().map(|unit| unit.bytes.clone()))
+        .collect::<Result<_, _>>()
+        .map_err(|_| "a fault")?;
+    assert_eq!(
+        units,
+        popped.iter().map(|it| it.1.clone()).collect::<Vec<_>>()
+    );
     Ok(())
 }
 
@@ -352,7 +387,13 @@ fn random_networks_lose_nothing() -> Result<(), Fail> {
             sent = datagram;
             let is_lost = datagram > 0 && random.below(share) == 0;
             lost += usize::from(is_lost);
-            (!is_lost).then(|| if datagram == 0 { 0 } else { 1 + random.below(50) as u64 })
+            (!is_lost).then(|| {
+                if datagram == 0 {
+                    0
+                } else {
+                    1 + random.below(50) as u64
+                }
+            })
         };
         let (steps, popped) = run_of(&case, &samples, &mut random, &mut loses)?;
         // the last packets of the stream may be lost without a later one that shows it

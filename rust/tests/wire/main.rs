@@ -21,6 +21,7 @@ mod sides;
 mod switched;
 mod switched_back;
 mod with_ids;
+mod witness_answers;
 mod witness_runs;
 mod witnesses;
 
