@@ -4,7 +4,7 @@
 LIBRARY = ["base", "audio", "vp8", "vp9", "av1", "red", "rtp", "sending_red", "rtcp", "feedback_congestion", "sending_history", "sending_forward", "syntax", "vpx", "descriptor", "media", "keyframes", "feedback_requests", "feedback", "feedback_transport", "feedback_ccfb", "feedback_xr", "fec", "fec_receiver", "feedback_wait", "feedback_freezes", "bandwidth_pacer", "bandwidth_layers", "bandwidth_estimate", "bandwidth_estimator", "bandwidth_path", "bandwidth", "layers", "edges", "index", "queue", "references", "codec", "contiguity", "metadata", "buffer", "numbers", "jitter", "datagrams", "receiver", "stream_edges", "session_formats", "session_requests", "session_stream", "session", "sending",
            "payloader", "buffer_runs", "datagram_runs", "forward_runs", "session_runs", "server_runs"]
 # Runs that do the same as those of `datagram_runs`, with one more clause; theorems alone.
-NOT_HERE = {"fec_runs", "session_units", "timely_runs"}
+NOT_HERE = {"answered_runs", "fec_runs", "session_units", "timely_runs"}
 # The crates of the library for C, and the module of rust-c that each becomes.
 C_LIBRARY = {"handle": "handle", "c_packets": "packets", "c_path": "path", "c_receiving": "receiving", "c": "calls"}
 # Names the users' modules of the library again.

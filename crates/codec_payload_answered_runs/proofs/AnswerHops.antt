@@ -10,13 +10,16 @@ use Rattle.codec_payload_sending_history.specs.declared.retransmission.Resent.{R
 use Rattle.codec_payload_sending_history.specs.declared.retransmission.Resent.TheVariants as results
 use Rattle.codec_payload_datagram_runs.proofs.StepLemmas.{get_append}
 use Rattle.codec_payload_datagram_runs.specs.HistoryReleases.{latest_with, repeated_by, sends_by, sent_by}
-use Rattle.codec_payload_datagram_runs.specs.Releases.{sends_after, sent_after}
+use Rattle.codec_payload_datagram_runs.specs.Releases.{sent_after}
 use Rattle.codec_payload_datagram_runs.specs.declared.history_run.HistoryStep.TheVariants as history_steps
 use Rattle.codec_payload_datagram_runs.specs.declared.run.DatagramStep.{DatagramStep}
 use Rattle.codec_payload_datagram_runs.specs.declared.run.DatagramStep.TheVariants as steps
 use Rattle.codec_payload_datagram_runs.specs.declared.run.SentSample.{SentSample}
-use Rattle.codec_payload_answered_runs.specs.AnsweredRuns.{AnsweredStep, Answering, AnswersRequests, AnswersServe, Arrives, IsAnswered, Links, LostPacketsComeBack, Notes, OneIsAnswered, Polls, asked_steps, asked_steps_of, asking_of, begins_answering, delivery_before, heard_of, written_by}
+use Rattle.codec_payload_answered_runs.specs.AnsweredRuns.{AnsweredRuns, AnsweredStep, Answering, AnswersRequests, AnswersServe, Arrives, GetsThrough, IsAnswered, Links, LostPacketsComeBack, Notes, OneGetsThrough, OneIsAnswered, Polls, asked_steps, asked_steps_of, asking_of, begins_answering, delivery_before, heard_by, links_of, written_by}
+use Rattle.codec_payload_datagram_runs.specs.HistoryRuns.{DoesHistoryStep, HistoryRuns, Resending}
 use Rattle.codec_payload_answered_runs.proofs.AnsweredCourses.{answers_fill_gaps}
+use Rattle.codec_payload_answered_runs.proofs.AnsweredLemmas.{of_settings, requests_are_answered}
+use Rattle.codec_payload_answered_runs.specs.AnsweredRequests.{AllAnswered}
 use Rattle.codec_payload_answered_runs.specs.FilledGaps.{first_size}
 use Rattle.codec_payload_answered_runs.specs.AskedRuns.{Asked, AskedStep, Asks, ComesBy, Does, FillsGaps, Hears, IfAsked, OneServes, ServesRequests, heard_steps}
 
@@ -185,27 +188,96 @@ module _ (number : ℕ) (samples : List Sample) where
 pub answers_serve : AnswersServe
 answers_serve number first samples j delay k all_steps sends answers asked is = one_serves number samples first j delay k 0 0 [] all_steps sends answers asked refl is
 
+-- The network alone
+
+-- the history answers what gets through
+module _ (number limit : ℕ) (samples : List Sample) where
+  got_answered : (j asked_at delay sent m : ℕ) (later : List AnsweredStep) (sends : List SentSample) (answers : List Resent) → AllAnswered number limit samples sent (links_of later) sends answers
+      → GetsThrough number limit samples j asked_at delay sent m later sends answers → IsAnswered number samples j asked_at delay sent m later sends answers
+  got_answered j asked_at delay sent m [] sends answers all gets = absurd gets
+  got_answered j asked_at delay sent m (Links (history_steps.Plain step) ∷ later) sends answers all gets =
+      got_answered j asked_at delay (sent_by samples sent step sends) m later (sends_by samples step sends) answers all gets
+  got_answered j asked_at delay sent m (Links (history_steps.Resend requested now) ∷ later) sends [] all gets = absurd gets
+  got_answered j asked_at delay sent m (Links (history_steps.Resend requested now) ∷ later) sends (answer ∷ answers) all (inl here) =
+      let is = all.0 j here.1 here.2 here.0 in
+      inl (here.1, is.1, here.3, is.0, here.4)
+  got_answered j asked_at delay sent m (Links (history_steps.Resend requested now) ∷ later) sends (answer ∷ answers) all (inr rest) =
+      inr (got_answered j asked_at delay sent (m + written_by answer) later sends answers all.1 rest)
+  got_answered j asked_at delay sent m (Links (history_steps.DeliverAgain i now) ∷ later) sends answers all gets = got_answered j asked_at delay sent m later sends answers all gets
+  got_answered j asked_at delay sent m (Polls now ∷ later) sends answers all gets = got_answered j asked_at delay sent m later sends answers all gets
+  got_answered j asked_at delay sent m (Notes now heard ∷ later) sends answers all gets = got_answered j asked_at delay sent m later sends answers all gets
+
+  one_answered : (first j delay k sent m : ℕ) (later : List AnsweredStep) (sends : List SentSample) (answers : List Resent) (asked : List Asked) → AllAnswered number limit samples sent (links_of later) sends answers
+      → OneGetsThrough number limit first samples j delay k sent m later sends answers asked → OneIsAnswered number first samples j delay k sent m later sends answers asked
+  one_answered first j delay k sent m [] sends answers asked all gets = tt
+  one_answered first j delay k sent m (Links (history_steps.Plain step) ∷ later) sends answers asked all gets =
+      one_answered first j delay k (sent_by samples sent step sends) m later (sends_by samples step sends) answers asked all gets
+  one_answered first j delay k sent m (Links (history_steps.Resend requested now) ∷ later) sends [] asked all gets = absurd gets
+  one_answered first j delay k sent m (Links (history_steps.Resend requested now) ∷ later) sends (answer ∷ answers) asked all gets =
+      one_answered first j delay k sent (m + written_by answer) later sends answers asked all.1 gets
+  one_answered first j delay k sent m (Links (history_steps.DeliverAgain i now) ∷ later) sends answers asked all gets = one_answered first j delay k sent m later sends answers asked all gets
+  one_answered first j delay k sent m (Notes now heard ∷ later) sends answers asked all gets = one_answered first j delay k sent m later sends answers asked all gets
+  one_answered first j delay k sent m (Polls now ∷ later) sends answers [] all gets = absurd gets
+  one_answered first j delay zero sent m (Polls now ∷ later) sends answers (x ∷ asked) all gets =
+      by_named (is_in (first + j) x.numbers) gets (one_answered first j delay zero sent m later sends answers asked all)
+    where
+      by_named : (b : Bool) → IfAsked b (GetsThrough number limit samples j now delay sent m later sends answers) (OneGetsThrough number limit first samples j delay zero sent m later sends answers asked)
+          → (OneGetsThrough number limit first samples j delay zero sent m later sends answers asked → OneIsAnswered number first samples j delay zero sent m later sends answers asked)
+          → IfAsked b (IsAnswered number samples j now delay sent m later sends answers) (OneIsAnswered number first samples j delay zero sent m later sends answers asked)
+      by_named true here rest = got_answered j now delay sent m later sends answers all here
+      by_named false other rest = rest other
+  one_answered first j delay (suc k) sent m (Polls now ∷ later) sends answers (x ∷ asked) all gets =
+      by_named (is_in (first + j) x.numbers) gets (one_answered first j delay k sent m later sends answers asked all) (one_answered first j delay (suc k) sent m later sends answers asked all)
+    where
+      by_named : (b : Bool)
+          → IfAsked b (GetsThrough number limit samples j now delay sent m later sends answers ⊎ OneGetsThrough number limit first samples j delay k sent m later sends answers asked)
+          (OneGetsThrough number limit first samples j delay (suc k) sent m later sends answers asked)
+          → (OneGetsThrough number limit first samples j delay k sent m later sends answers asked → OneIsAnswered number first samples j delay k sent m later sends answers asked)
+          → (OneGetsThrough number limit first samples j delay (suc k) sent m later sends answers asked → OneIsAnswered number first samples j delay (suc k) sent m later sends answers asked)
+          → IfAsked b (IsAnswered number samples j now delay sent m later sends answers ⊎ OneIsAnswered number first samples j delay k sent m later sends answers asked)
+          (OneIsAnswered number first samples j delay (suc k) sent m later sends answers asked)
+      by_named true (inl here) fewer rest = inl (got_answered j now delay sent m later sends answers all here)
+      by_named true (inr other) fewer rest = inr (fewer other)
+      by_named false other fewer rest = rest other
+
+-- the steps of the schedule do nothing to sender, history and receiver
+links_run : (samples : List Sample) (all_steps : List AnsweredStep) (s t : Answering) → AnsweredRuns samples all_steps s t → HistoryRuns samples (links_of all_steps) s.link t.link
+links_run samples [] s t run = ap (λ (x : Answering). x.link) run
+links_run samples (Links step ∷ later) s t run =
+    let link : run.0.link ≡ run.1.0 = ap (λ (x : Answering). x.link) run.1.2 in
+    (run.0.link, subst (DoesHistoryStep samples step s.link) (sym link) run.1.1, links_run samples later run.0 t run.2)
+links_run samples (Polls now ∷ later) s t run =
+    subst (λ (x : Resending). HistoryRuns samples (links_of later) x t.link) (ap (λ (x : Answering). x.link) run.1) (links_run samples later run.0 t run.2)
+links_run samples (Notes now heard ∷ later) s t run =
+    subst (λ (x : Resending). HistoryRuns samples (links_of later) x t.link) (ap (λ (x : Answering). x.link) run.1) (links_run samples later run.0 t run.2)
+
 -- The theorem
 
-serves_all : (first slack delay k size : ℕ) (samples : List Sample) (all_steps : List AnsweredStep) (s t : Answering) → AnswersRequests first slack delay k size samples all_steps s t
-    → ServesRequests first slack (delay + delay) k size (heard_of samples all_steps s t) t.asked
-serves_all first slack delay k size samples all_steps s t is = record {
+serves_all : (first slack delay k size : ℕ) (samples : List Sample) (all_steps : List AnsweredStep) (s t : Answering)
+    → AllAnswered s.link.wire.sending.stream.number s.link.history.limit samples 0 (links_of all_steps) t.link.wire.sends t.link.answers → AnswersRequests first slack delay k size samples all_steps s t
+    → ServesRequests first slack (delay + delay) k size (heard_by s.link.wire.sending.stream.number samples all_steps t.link.wire.sends t.link.answers) t.asked
+serves_all first slack delay k size samples all_steps s t all is = record {
   times = is.times;
   asks = is.asks;
   begins = is.begins;
   first_unit = is.first_unit;
-  serves = λ j. answers_serve s.link.wire.sending.stream.number first samples j delay k all_steps t.link.wire.sends t.link.answers t.asked (is.answers j);
+  serves = λ j. answers_serve s.link.wire.sending.stream.number first samples j delay k all_steps t.link.wire.sends t.link.answers t.asked
+      (one_answered s.link.wire.sending.stream.number s.link.history.limit samples first j delay k 0 0 all_steps t.link.wire.sends t.link.answers t.asked all (is.gets_through j));
 }
 
 pub lost_packets_come_back : Exact → OnTime → LostPacketsComeBack
-lost_packets_come_back exact on_time samples all_steps sender history receiver settings t run plain answers within =
+lost_packets_come_back exact on_time samples all_steps sender history receiver settings t run plain answers any_time within =
     let s : Answering = begins_answering sender history receiver settings in
+    let same = of_settings answers.settings history answers.new in
+    let all : AllAnswered sender.stream.number history.limit samples 0 (links_of all_steps) t.link.wire.sends t.link.answers =
+    subst (λ (n : ℕ). AllAnswered sender.stream.number n samples 0 (links_of all_steps) t.link.wire.sends t.link.answers) (sym same.0)
+    (requests_are_answered samples (links_of all_steps) sender history receiver t.link (links_run samples all_steps s t run) answers.settings answers.new (sym same.1 ∙ any_time)) in
     let gaps : FillsGaps samples (asked_steps_of samples all_steps s t) settings (asking_of s) (asking_of t) =
     answers_fill_gaps exact on_time samples all_steps sender history receiver settings t run plain answers within in
     record {
       gaps = gaps;
       in_turn = λ max_wait slack delay k waiting allows is. gaps.in_turn max_wait slack (delay + delay) k waiting allows
-          (serves_all gaps.run.times.promises.first slack delay k (first_size gaps.run.times.promises.released.units) samples all_steps s t is);
+          (serves_all gaps.run.times.promises.first slack delay k (first_size gaps.run.times.promises.released.units) samples all_steps s t all is);
       in_time = λ max_wait slack delay k waiting allows is. gaps.in_time max_wait slack (delay + delay) k waiting allows
-          (serves_all gaps.run.times.promises.first slack delay k (first_size gaps.run.times.promises.released.units) samples all_steps s t is);
+          (serves_all gaps.run.times.promises.first slack delay k (first_size gaps.run.times.promises.released.units) samples all_steps s t all is);
     }

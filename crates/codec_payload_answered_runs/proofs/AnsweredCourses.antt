@@ -1,6 +1,6 @@
 -- A run with a history and requests is one without a history in which copies of datagrams are delivered. It repeats RepeatLemmas of
 -- codec_payload_datagram_runs, whose names for these facts are private, with the steps of the schedule.
-use Rattle.std.proofs.Common.{◌≡◌, ◌∙◌, refl, sym, ap, subst, ℕ, ◌+◌, ◌%◌, ◌<◌, List, [], ◌∷◌, ◌++◌, Option, Some, None, Ok, MatchOption, length, arith, append_assoc, append-nil}
+use Rattle.std.proofs.Common.{◌≡◌, ◌∙◌, refl, sym, ap, subst, ℕ, ◌+◌, ◌%◌, List, [], ◌∷◌, ◌++◌, Option, Some, None, Ok, MatchOption, length, arith, append_assoc, append-nil}
 use Rattle.std.specs.Prelude.{slice_get}
 use Rattle.std.proofs.lemmas.List.{length-append}
 use Rattle.codec_payload_base.specs.declared.wire.Ticks.{Ticks}
@@ -16,13 +16,12 @@ use Rattle.codec_payload_sending_history.specs.declared.retransmission.Resent.{R
 use Rattle.codec_payload_sending_history.specs.declared.retransmission.RetransmissionStream.{RetransmissionStream}
 use Rattle.codec_payload_receiver.specs.Sessions.{Session}
 use Rattle.codec_payload_datagram_runs.proofs.Courses.{DeliversCopy, makes}
-use Rattle.codec_payload_datagram_runs.proofs.RepeatLemmas.{AreLatest, Follows, From, Grows, IsNewest, IsOf, advanced, advanced_append, copy_at, follows, from_append, from_same, grows, keeps_all, new_history, new_is, newest_stays, no_copy_at, repeats_append, repeats_more, resends_copy}
+use Rattle.codec_payload_datagram_runs.proofs.RepeatLemmas.{AreLatest, From, IsNewest, IsOf, advanced, advanced_append, copy_at, follows, from_append, from_same, grows, keeps_all, new_history, new_is, newest_stays, no_copy_at, repeats_append, repeats_more, resends_copy}
 use Rattle.codec_payload_datagram_runs.specs.HistoryReleases.{AreRepeats, latest_with, repeated_by, sends_by}
 use Rattle.codec_payload_datagram_runs.specs.HistoryRuns.{KeepsAll, Resending, begins_with, sent_since, written}
 use Rattle.codec_payload_datagram_runs.specs.WireRuns.{Delivers, DoesStep, Receipt, Wire}
 use Rattle.codec_payload_datagram_runs.specs.declared.history_run.HistoryStep.TheVariants as history_steps
 use Rattle.codec_payload_datagram_runs.specs.declared.run.DatagramStep.{DatagramStep}
-use Rattle.codec_payload_datagram_runs.specs.declared.run.DatagramStep.TheVariants as steps
 use Rattle.codec_payload_datagram_runs.specs.declared.run.SentSample.{SentSample}
 use Rattle.codec_payload_answered_runs.proofs.AskedCourses.{AskedCourse}
 use Rattle.codec_payload_answered_runs.proofs.RunParts.{fills}

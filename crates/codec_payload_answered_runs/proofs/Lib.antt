@@ -7,3 +7,5 @@ pub mod AskedCourses
 pub mod ServedGaps
 pub mod AnsweredCourses
 pub mod AnswerHops
+pub mod AnsweredLemmas
+pub mod ComeBackExamples

@@ -1,9 +1,9 @@
 -- What a receiver reports missing: what did not come, between the first datagram and the highest one that came.
-use Rattle.std.proofs.Common.{◌≡◌, ◌≢◌, ◌∙◌, refl, sym, ap, subst, ℕ, zero, suc, ◌+◌, ◌-◌, ◌%◌, ◌^◌, ◌<◌, ◌≤◌, ◌⊎◌, ◌&&◌, ◌||◌, inl, inr, Bool, true, false, not, cond, List, [], ◌∷◌, Option, Some, None, Ok, Err, arith, eqb, filter, length, ltb, max, take}
+use Rattle.std.proofs.Common.{◌≡◌, ◌∙◌, refl, sym, ap, subst, ℕ, zero, suc, ◌+◌, ◌-◌, ◌%◌, ◌^◌, ◌<◌, ◌≤◌, ◌⊎◌, ◌&&◌, ◌||◌, inl, inr, Bool, true, false, cond, List, [], ◌∷◌, Option, Some, None, arith, eqb, filter, length, max, take}
 use Rattle.std.specs.Prelude.{is_some}
 use Rattle.std.proofs.lemmas.Bool.{cases_lt, leb-false}
 use Rattle.std.proofs.lemmas.Bool.Decides.{nat_tests}
-use Rattle.std.proofs.lemmas.List.{length-take, take_all}
+use Rattle.std.proofs.lemmas.List.{take_all}
 use Rattle.codec_payload_base.specs.declared.wire.Ticks.{Ticks}
 use Rattle.codec_payload_codec.proofs.CaseLemmas.{by_test}
 use Rattle.codec_payload_buffer.specs.Held.{has_number}
@@ -13,10 +13,9 @@ use Rattle.codec_payload_feedback_requests.specs.NackRuns.{is_in}
 use Rattle.codec_payload_feedback_requests.specs.NackSchedule.{followed, is_past, rising_after}
 use Rattle.codec_payload_jitter.proofs.RestartLemmas.{again_without_former, answer_to_is}
 use Rattle.codec_payload_jitter.specs.Missing.{absent_between, floor_by, is_absent, missing_by, missing_numbers, missing_of, numbers_from}
-use Rattle.codec_payload_jitter.specs.Receiving.{Arrival, PopsWith, Receives, ReceivesAgain, ReceivesAgainAs, Receiving, answer_to, number_again_for, settled, waiting_at, would_store}
+use Rattle.codec_payload_jitter.specs.Receiving.{Arrival, PopsWith, Receives, ReceivesAgain, ReceivesAgainAs, Receiving, number_again_for, waiting_at, would_store}
 use Rattle.codec_payload_numbers.specs.NotedTimes.{AreTimesOf, is_untimely}
 use Rattle.codec_payload_numbers.specs.Numbers.{answer_for, lesser, lowest_with, number_within}
-use Rattle.codec_payload_numbers.specs.declared.numbers.Extended.{Extended}
 use Rattle.codec_payload_numbers.specs.declared.numbers.Extended.TheVariants as extended
 use Rattle.codec_payload_payloader.specs.Packets.{Packet}
 use Rattle.codec_payload_sending_history.specs.Histories.{IsRetransmission}
@@ -41,7 +40,6 @@ use Rattle.codec_payload_datagram_runs.specs.WireRuns.{Delivers, PopsUnit, Recei
 not_repeated : (s : Session) (time low : ℕ) → HasNoBlock s.seen → is_repeat s.stream s.seen s.packets time low ≡ false
 not_repeated s time low none =
     ap (λ (b : Bool). (is_some s.stream.red && b) && would_store s.packets low) (none time) ∙ ap (λ (b : Bool). b && would_store s.packets low) (and_false (is_some s.stream.red))
-
 
 lowest_sent : (again : Option RetransmissionStream) (time_of : ℕ → ℕ) (stream : Outgoing) (now : Ticks) (q : Packet) (bytes : List ℕ) (s t : Session) (receipt : Receipt) → (stream.payload_type < 64)
     ⊎ (95 < stream.payload_type) → IsListening again stream s → ReadsAs stream q bytes

@@ -1,12 +1,12 @@
 -- A number that stays missing is requested in time, poll by poll.
-use Rattle.std.proofs.Common.{◌≡◌, ◌∙◌, refl, sym, ap, subst, ℕ, zero, suc, ◌+◌, ◌*◌, ◌-◌, ◌^◌, ◌<◌, ◌≤◌, ◌⊎◌, inl, inr, Bool, true, false, cond, List, [], ◌∷◌, Option, Some, None, arith, length, leb, ltb, max, min}
+use Rattle.std.proofs.Common.{◌≡◌, ◌∙◌, refl, sym, ap, subst, ℕ, suc, ◌+◌, ◌*◌, ◌^◌, ◌<◌, ◌≤◌, ◌⊎◌, inl, inr, Bool, true, false, cond, List, [], ◌∷◌, Option, Some, None, arith, length, leb, ltb}
 use Rattle.std.proofs.Math.Nat.{mul-le-mul_right}
-use Rattle.std.proofs.lemmas.Bool.{cases_lt, leb-false, leb-true, ltb-true}
+use Rattle.std.proofs.lemmas.Bool.{cases_lt, leb-true, ltb-true}
 use Rattle.std.proofs.lemmas.Bool.Decides.{nat_tests}
 use Rattle.codec_payload_feedback_requests.specs.declared.nack.NackSettings.{NackSettings}
 use Rattle.codec_payload_feedback_requests.specs.declared.nack.PendingRequest.{PendingRequest}
 use Rattle.codec_payload_feedback_requests.specs.NackRuns.{Call, Exact, OnTime, Request, answered, begun, followed_since, is_in, next_by, next_of, refresh, report, request_at, requested_at, requests_of, schedule_after, take_due}
-use Rattle.codec_payload_feedback_requests.specs.NackSchedule.{Schedule, answer_of, earliest_of, followed, retry_by, retry_time, trip_by}
+use Rattle.codec_payload_feedback_requests.specs.NackSchedule.{Schedule, answer_of, earliest_of, followed, retry_by, trip_by}
 use Rattle.codec_payload_feedback_requests.specs.Requests.{has_come, later}
 use Rattle.codec_payload_feedback_requests.specs.RoundTrips.{is_sure, known_trip}
 use Rattle.codec_payload_answered_runs.specs.Repeats.{AllMiss, AreInTime, ArePolled, IsBy, Poll, RequestsAreRepeated, calls_of, due_by, polled_by, request_by, retry_most}

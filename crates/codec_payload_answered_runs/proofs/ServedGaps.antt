@@ -1,5 +1,5 @@
 -- A run whose receiver requests what is missing, step by step: what does not come is requested, and comes in time.
-use Rattle.std.proofs.Common.{◌≡◌, ◌≢◌, ◌∙◌, refl, sym, ap, subst, ℕ, zero, suc, ◌+◌, ◌*◌, ◌%◌, ◌^◌, ◌<◌, ◌≤◌, ◌⊎◌, ◌||◌, inl, inr, Bool, true, false, cond, List, [], ◌∷◌, Option, Some, None, Err, arith, eqb, length, max, min}
+use Rattle.std.proofs.Common.{◌≡◌, ◌≢◌, ◌∙◌, refl, sym, ap, subst, ℕ, zero, suc, ◌+◌, ◌*◌, ◌%◌, ◌^◌, ◌<◌, ◌≤◌, ◌⊎◌, ◌||◌, inl, inr, Bool, true, false, cond, List, [], ◌∷◌, Option, Some, None, Err, arith, eqb, length, max}
 use Rattle.std.specs.Prelude.{slice_get}
 use Rattle.std.proofs.Math.Nat.{mul-le-mul_right}
 use Rattle.std.proofs.lemmas.Bool.{cases_lt}
@@ -14,7 +14,7 @@ use Rattle.codec_payload_buffer.specs.Held.{Held, has_number, number_of}
 use Rattle.codec_payload_buffer.specs.Steps.{State, arrived, pushed}
 use Rattle.codec_payload_metadata.specs.declared.meta.RtpMeta.{RtpMeta}
 use Rattle.codec_payload_feedback_requests.specs.declared.nack.NackSettings.{NackSettings}
-use Rattle.codec_payload_feedback_requests.specs.NackRuns.{Call, Exact, OnTime, Request, answered, begun, followed_since, is_in, next_by, refresh, request_at, requested_at, requests_of, schedule_after, take_due}
+use Rattle.codec_payload_feedback_requests.specs.NackRuns.{Call, Exact, OnTime, answered, begun, followed_since, is_in, next_by, refresh, request_at, requested_at, requests_of, schedule_after, take_due}
 use Rattle.codec_payload_feedback_requests.specs.NackSchedule.{earliest_of, followed}
 use Rattle.codec_payload_feedback_requests.specs.Requests.{has_come as is_past}
 use Rattle.codec_payload_jitter.specs.Missing.{missing_numbers}
@@ -219,9 +219,12 @@ module _ (exact : Exact) (on_time : OnTime) (settings : NackSettings) (c : Setti
           × (is_in (c.first + j) (requested_at settings (refresh now ns ∷ calls) now) ≡ false)
       nothing none absent =
           let since : followed_since settings (c.first + j) (refresh now ns ∷ calls) ≡ None = ap (λ (b : Bool). cond b (Some (begun now (followed_since settings (c.first + j) calls))) None) absent in
-          let empty : requests_of settings (c.first + j) (refresh now ns ∷ calls) ≡ [] = ap (λ (b : Bool). cond b (requests_of settings (c.first + j) calls) []) absent in
-          (since, empty, exact settings (refresh now ns ∷ calls) (c.first + j) now allows.small
-          ∙ ap (λ (o : Option ℕ). is_past (next_by settings o (requests_of settings (c.first + j) (refresh now ns ∷ calls))) now) since)
+          let empty : requests_of settings (c.first + j) (refresh now ns ∷ calls) ≡ [] = ap (λ (b : Bool). cond b (requests_of settings (c.first + j) calls) []) absent in (
+            since,
+            empty,
+            exact settings (refresh now ns ∷ calls) (c.first + j) now allows.small
+                ∙ ap (λ (o : Option ℕ). is_past (next_by settings o (requests_of settings (c.first + j) (refresh now ns ∷ calls))) now) since,
+          )
 
       by_phase : has_come j xs ≡ false → Phase time until xs calls (Asks now ∷ later) (x ∷ asked) j → Phase now (until_after now ns calls) xs (polled now ns calls) later asked j
       by_phase not (come is) = absurd (clash is not)

@@ -1,5 +1,5 @@
 -- The log of a run in which each gap is filled: the pops return the units in turn, and in time.
-use Rattle.std.proofs.Common.{◌≡◌, ◌∙◌, refl, sym, ap, subst, ℕ, zero, suc, ◌+◌, ◌-◌, ◌^◌, ◌<◌, ◌≤◌, ◌⊎◌, ◌||◌, inl, inr, Bool, true, false, List, [], ◌∷◌, ◌++◌, Option, Some, None, arith, append-nil, append_assoc, eqb, length, length-append, map, take}
+use Rattle.std.proofs.Common.{◌≡◌, ◌∙◌, refl, sym, ap, subst, ℕ, zero, suc, ◌+◌, ◌-◌, ◌^◌, ◌<◌, ◌≤◌, ◌⊎◌, inl, inr, Bool, true, false, List, [], ◌∷◌, ◌++◌, Option, Some, None, arith, append-nil, append_assoc, eqb, length, length-append, map, take}
 use Rattle.std.specs.Prelude.{Contains}
 use Rattle.std.proofs.lemmas.Bool.{cases_lt}
 use Rattle.std.proofs.lemmas.Bool.Decides.{nat_tests}
@@ -7,7 +7,7 @@ use Rattle.codec_payload_base.specs.declared.wire.Ticks.{Ticks}
 use Rattle.codec_payload_codec.proofs.CaseLemmas.{by_test}
 use Rattle.codec_payload_codec.specs.Depacketizers.{DepacketizerKind}
 use Rattle.codec_payload_buffer.specs.Held.{Held, has_number, number_of}
-use Rattle.codec_payload_buffer.specs.Steps.{State, arrived, is_at_most, pushed}
+use Rattle.codec_payload_buffer.specs.Steps.{State, arrived, pushed}
 use Rattle.codec_payload_buffer.specs.Stretches.{counts}
 use Rattle.codec_payload_buffer_runs.proofs.order.SafetyLemmas.{number_of_sent}
 use Rattle.codec_payload_buffer_runs.proofs.order.TakenLemmas.{IsPlain}

@@ -18,7 +18,7 @@ use Rattle.codec_payload_buffer.specs.Stretches.{counts, last_or, numbers_from}
 use Rattle.codec_payload_buffer.specs.declared.buffer.frames.CompleteFrame.{CompleteFrame}
 use Rattle.codec_payload_buffer_runs.proofs.order.HoldBackLemmas.{ready_with}
 use Rattle.codec_payload_buffer_runs.proofs.order.LossLemmas.{Whole, due_whole, no_length, whole_release}
-use Rattle.codec_payload_buffer_runs.proofs.order.SafetyLemmas.{before_later, before_next, lawful_at, number_of_sent}
+use Rattle.codec_payload_buffer_runs.proofs.order.SafetyLemmas.{before_later, before_next, lawful_at}
 use Rattle.codec_payload_buffer_runs.proofs.order.TakenLemmas.{IsPlain, stays_plain}
 use Rattle.codec_payload_buffer_runs.proofs.order.TurnLemmas.{Beyond, FrameOf, IsPop, IsPush, IsReady, IsSpan, Setting, count, few_released, frame_due, or_cases, pop_is, releases, span_left, span_ready, span_within, waits}
 use Rattle.codec_payload_buffer_runs.proofs.order.WholeLemmas.{has_above, some_packets}
@@ -415,8 +415,7 @@ module _ (c : Setting) (r : Receiving) (max_wait : ℕ) (plain : IsPlain c) (set
       let first = due_is mid (frames s.held) f out.is_due in
       let held : t.held ≡ above f.last s.held = ap (λ (x : State). x.held) out.left in
       let cutoff : t.cutoff ≡ Some f.last = ap (λ (x : State). x.cutoff) out.left in
-      let limit : t.limit ≡ s.limit = ap (λ (x : State). x.limit) out.left in
-      (
+      let limit : t.limit ≡ s.limit = ap (λ (x : State). x.limit) out.left in (
         whole.whole,
         record {
           ready = record { beyond = whole.next; few = few_released c mid t rel ready.few out };

@@ -1,5 +1,5 @@
 -- A run whose parts are all of this library: a sender with the history of its datagrams, a receiver, and the schedule of its requests.
-use Rattle.std.specs.Prelude.{◌≡◌, ℕ, zero, suc, ◌+◌, ◌<◌, ◌≤◌, ◌⊎◌, List, [], ◌∷◌, ◌++◌, Option, Some, None, length, slice_get}
+use Rattle.std.specs.Prelude.{◌≡◌, ℕ, zero, suc, ◌+◌, ◌%◌, ◌<◌, ◌≤◌, ◌⊎◌, List, [], ◌∷◌, ◌++◌, Option, Some, None, length, slice_get}
 use Rattle.codec_payload_base.specs.declared.wire.Ticks.{Ticks}
 use Rattle.codec_payload_feedback_requests.specs.declared.nack.NackSettings.{NackSettings}
 use Rattle.codec_payload_feedback_requests.specs.NackRuns.{is_in}
@@ -132,6 +132,47 @@ OneIsAnswered number first samples j delay (suc k) sent m (Polls now ∷ later) 
     IfAsked (is_in (first + j) x.numbers) (IsAnswered number samples j now delay sent m later sends answers ⊎ OneIsAnswered number first samples j delay k sent m later sends answers asked)
     (OneIsAnswered number first samples j delay (suc k) sent m later sends answers asked)
 
+-- The same about the network alone: a request for the datagram with the index j arrives within the delay, while the history has the
+-- datagram: before `limit` others were sent after it; and the answer, the retransmission with the index m, arrives within the delay
+abbrev pub GetsThrough : (number limit : ℕ) → List Sample → (j asked_at delay sent m : ℕ) → List AnsweredStep → List SentSample → List Resent → Type 0
+GetsThrough number limit samples j asked_at delay sent m [] sends answers = ⊥
+GetsThrough number limit samples j asked_at delay sent m (Links (history_steps.Plain step) ∷ later) sends answers =
+    GetsThrough number limit samples j asked_at delay (sent_by samples sent step sends) m later (sends_by samples step sends) answers
+GetsThrough number limit samples j asked_at delay sent m (Links (history_steps.Resend requested now) ∷ later) sends [] = ⊥
+GetsThrough number limit samples j asked_at delay sent m (Links (history_steps.Resend requested now) ∷ later) sends (answer ∷ answers) =
+    ((requested ≡ (number + j) % 65536) × (j < sent) × (sent ≤ j + limit) × (now.0 ≤ asked_at + delay) × Arrives m (now.0 + delay) later)
+    ⊎ GetsThrough number limit samples j asked_at delay sent (m + written_by answer) later sends answers
+GetsThrough number limit samples j asked_at delay sent m (Links (history_steps.DeliverAgain i now) ∷ later) sends answers = GetsThrough number limit samples j asked_at delay sent m later sends answers
+GetsThrough number limit samples j asked_at delay sent m (Polls now ∷ later) sends answers = GetsThrough number limit samples j asked_at delay sent m later sends answers
+GetsThrough number limit samples j asked_at delay sent m (Notes now heard ∷ later) sends answers = GetsThrough number limit samples j asked_at delay sent m later sends answers
+
+-- of the first k + 1 requests for the datagram with the index j, at most k, or their answers, are lost
+abbrev pub OneGetsThrough : (number limit first : ℕ) → List Sample → (j delay k sent m : ℕ) → List AnsweredStep → List SentSample → List Resent → List Asked → Type 0
+OneGetsThrough number limit first samples j delay k sent m [] sends answers asked = Unit {0}
+OneGetsThrough number limit first samples j delay k sent m (Links (history_steps.Plain step) ∷ later) sends answers asked =
+    OneGetsThrough number limit first samples j delay k (sent_by samples sent step sends) m later (sends_by samples step sends) answers asked
+OneGetsThrough number limit first samples j delay k sent m (Links (history_steps.Resend requested now) ∷ later) sends [] asked = ⊥
+OneGetsThrough number limit first samples j delay k sent m (Links (history_steps.Resend requested now) ∷ later) sends (answer ∷ answers) asked =
+    OneGetsThrough number limit first samples j delay k sent (m + written_by answer) later sends answers asked
+OneGetsThrough number limit first samples j delay k sent m (Links (history_steps.DeliverAgain i now) ∷ later) sends answers asked =
+    OneGetsThrough number limit first samples j delay k sent m later sends answers asked
+OneGetsThrough number limit first samples j delay k sent m (Notes now heard ∷ later) sends answers asked = OneGetsThrough number limit first samples j delay k sent m later sends answers asked
+OneGetsThrough number limit first samples j delay k sent m (Polls now ∷ later) sends answers [] = ⊥
+OneGetsThrough number limit first samples j delay zero sent m (Polls now ∷ later) sends answers (x ∷ asked) =
+    IfAsked (is_in (first + j) x.numbers) (GetsThrough number limit samples j now delay sent m later sends answers)
+    (OneGetsThrough number limit first samples j delay zero sent m later sends answers asked)
+OneGetsThrough number limit first samples j delay (suc k) sent m (Polls now ∷ later) sends answers (x ∷ asked) =
+    IfAsked (is_in (first + j) x.numbers)
+    (GetsThrough number limit samples j now delay sent m later sends answers ⊎ OneGetsThrough number limit first samples j delay k sent m later sends answers asked)
+    (OneGetsThrough number limit first samples j delay (suc k) sent m later sends answers asked)
+
+-- the steps of the sender, its history, the network and the receiver
+abbrev pub links_of : List AnsweredStep → List HistoryStep
+links_of [] = []
+links_of (Links step ∷ later) = step ∷ links_of later
+links_of (Polls now ∷ later) = links_of later
+links_of (Notes now heard ∷ later) = links_of later
+
 -- so the datagram comes within twice the delay of one of these requests
 abbrev pub AnswersServe : Type 0
 AnswersServe =
@@ -149,18 +190,24 @@ AnswersFillGaps =
     → IsWithinWindows samples (plain_of (asked_steps_of samples all_steps (begins_answering sender history receiver settings) t)) sender receiver t.link.wire.sends
     → FillsGaps samples (asked_steps_of samples all_steps (begins_answering sender history receiver settings) t) settings (asking_of (begins_answering sender history receiver settings)) (asking_of t)
 
--- the steps of the receiver of a run
-abbrev pub heard_of : List Sample → List AnsweredStep → Answering → Answering → List AskedStep
-heard_of samples all_steps s t = heard_steps samples 0 (asked_steps_of samples all_steps s t) t.link.wire.sends
+-- the steps of the receiver
+abbrev pub heard_by : (number : ℕ) → List Sample → List AnsweredStep → List SentSample → List Resent → List AskedStep
+heard_by number samples all_steps sends answers = heard_steps samples 0 (asked_steps number samples 0 [] all_steps sends answers) sends
 
--- the network: times do not fall; the schedule is polled in time; the first datagram comes first, and the first unit before others; and
--- of the first k + 1 requests for each datagram, at most k, or their answers, are lost
-pub record AnswersRequests (first slack delay k size : ℕ) (samples : List Sample) (all_steps : List AnsweredStep) (s t : Answering) : Type 0 where
-  pub times : TimesRise 0 (heard_of samples all_steps s t)
-  pub asks : AsksInTime slack None (heard_of samples all_steps s t) t.asked
-  pub begins : BeginsAt0 (delivered (plain_of (heard_of samples all_steps s t)))
-  pub first_unit : FirstComesFirst size [] (heard_of samples all_steps s t)
-  pub answers : (j : ℕ) → OneIsAnswered s.link.wire.sending.stream.number first samples j delay k 0 0 all_steps t.link.wire.sends t.link.answers t.asked
+-- The network, and when it is polled: times do not fall; the schedule is polled in time; the first datagram comes first, and the first
+-- unit before others; and of the first k + 1 requests for each datagram, at most k, or their answers, are lost. A request and an answer
+-- that is not lost arrives within the delay
+pub record IsKind (number limit first slack delay k size : ℕ) (samples : List Sample) (all_steps : List AnsweredStep) (sends : List SentSample) (answers : List Resent) (asked : List Asked) : Type 0 where
+  pub times : TimesRise 0 (heard_by number samples all_steps sends answers)
+  pub asks : AsksInTime slack None (heard_by number samples all_steps sends answers) asked
+  pub begins : BeginsAt0 (delivered (plain_of (heard_by number samples all_steps sends answers)))
+  pub first_unit : FirstComesFirst size [] (heard_by number samples all_steps sends answers)
+  pub gets_through : (j : ℕ) → OneGetsThrough number limit first samples j delay k 0 0 all_steps sends answers asked
+
+-- of a run
+abbrev pub AnswersRequests : (first slack delay k size : ℕ) → List Sample → List AnsweredStep → Answering → Answering → Type 0
+AnswersRequests first slack delay k size samples all_steps s t =
+    IsKind s.link.wire.sending.stream.number s.link.history.limit first slack delay k size samples all_steps t.link.wire.sends t.link.answers t.asked
 
 -- Lost, requested, answered, whole: the pops return the units in turn, from the first one that was sent on, each whole and none left
 -- out; and each in time, if pops come until None after each delivery and at each deadline
@@ -180,10 +227,11 @@ pub record ComeBack (samples : List Sample) (all_steps : List AnsweredStep) (set
       (may_split s.link.wire.sending.packetizer) gaps.run.times.promises.released.units
       (received_steps samples 0 (plain_of (asked_steps_of samples all_steps s t)) t.link.wire.sends) turns end)
 
--- for every run whose receiver requests what is missing, and whose sender answers by its history
+-- for every run whose receiver requests what is missing, and whose sender answers by its history, which answers at any time
 abbrev pub LostPacketsComeBack : Type 0
 LostPacketsComeBack =
     (samples : List Sample) (all_steps : List AnsweredStep) (sender : Sending) (history : Past) (receiver : Session) (settings : NackSettings) (t : Answering)
     → AnsweredRuns samples all_steps (begins_answering sender history receiver settings) t → next_id sender.packetizer ≡ None → AnswersReceiver history receiver
+    → history.interval ≡ 0
     → IsWithinWindows samples (plain_of (asked_steps_of samples all_steps (begins_answering sender history receiver settings) t)) sender receiver t.link.wire.sends
     → ComeBack samples all_steps settings (begins_answering sender history receiver settings) t

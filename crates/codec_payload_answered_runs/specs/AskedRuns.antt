@@ -1,7 +1,6 @@
 -- A run over datagrams whose receiver requests what is missing: each number that is requested comes, if not too many of its requests
 -- are in vain.
 use Rattle.std.specs.Prelude.{◌≡◌, ℕ, zero, suc, ◌+◌, ◌*◌, ◌^◌, ◌<◌, ◌≤◌, ◌⊎◌, min, nat_lt, if◌then◌else◌, Bool, true, false, List, [], ◌∷◌, ◌++◌, Option, Some, None, length, slice_get}
-use Rattle.codec_payload_base.specs.declared.wire.Ticks.{Ticks}
 use Rattle.codec_payload_feedback_requests.specs.declared.nack.NackSettings.{NackSettings}
 use Rattle.codec_payload_feedback_requests.specs.NackRuns.{is_in}
 use Rattle.codec_payload_feedback_requests.specs.NackSchedule.{Schedule, after_answer, after_due, due_numbers, earliest_of, new_schedule, refreshed}

@@ -1,6 +1,5 @@
 -- Runs over datagrams in which each gap is filled before a frame behind it is due: each unit is popped, whole and in turn.
-use Rattle.std.specs.Prelude.{◌≡◌, ℕ, ◌+◌, ◌<◌, ◌≤◌, ◌⊎◌, ◌==◌, ◌||◌, Bool, true, false, List, [], ◌∷◌, Option, Some, None, length, slice_get}
-use Rattle.codec_payload_base.specs.declared.wire.Ticks.{Ticks}
+use Rattle.std.specs.Prelude.{◌≡◌, ℕ, ◌+◌, ◌<◌, ◌≤◌, ◌⊎◌, ◌==◌, ◌||◌, Bool, true, false, List, [], ◌∷◌, Some, None, length, slice_get}
 use Rattle.codec_payload_codec.specs.Packetizers.{may_split}
 use Rattle.codec_payload_jitter.specs.Receiving.{Receiving}
 use Rattle.codec_payload_metadata.specs.declared.meta.RtpMeta.{RtpMeta}
@@ -13,7 +12,6 @@ use Rattle.codec_payload_buffer_runs.specs.Headline.{packets_before}
 use Rattle.codec_payload_buffer_runs.specs.Log.{Stretch, Turn}
 use Rattle.codec_payload_buffer_runs.specs.ReportedIds.{next_id}
 use Rattle.codec_payload_buffer_runs.specs.RunUnits.{AreNext, IsHeldWhole, ReleasesWhole}
-use Rattle.codec_payload_buffer_runs.specs.Schedule.{Answer}
 use Rattle.codec_payload_buffer_runs.specs.SentStream.{SentUnit}
 use Rattle.codec_payload_datagram_runs.specs.HistoryReleases.{AnswersReceiver, plain_steps_of}
 use Rattle.codec_payload_datagram_runs.specs.HistoryRuns.{HistoryRuns, Resending, begins_with}

@@ -2,3 +2,5 @@ pub mod FilledGaps
 pub mod Repeats
 pub mod AskedRuns
 pub mod AnsweredRuns
+pub mod AnsweredRequests
+pub mod ComeBackExample

@@ -1,5 +1,5 @@
 -- A missing number is requested again and again, by times that the settings say, if its schedule is polled in time.
-use Rattle.std.specs.Prelude.{◌≡◌, ℕ, ◌+◌, ◌*◌, ◌^◌, ◌<◌, ◌≤◌, max, min, true, List, [], ◌∷◌, Option, Some, None, length}
+use Rattle.std.specs.Prelude.{◌≡◌, ℕ, ◌+◌, ◌*◌, ◌^◌, ◌<◌, ◌≤◌, max, true, List, [], ◌∷◌, Option, Some, None, length}
 use Rattle.codec_payload_feedback_requests.specs.declared.nack.NackSettings.{NackSettings}
 use Rattle.codec_payload_feedback_requests.specs.NackRuns.{Call, Request, is_in, refresh, requests_of, schedule_after, take_due}
 use Rattle.codec_payload_feedback_requests.specs.NackSchedule.{earliest_of, followed}

@@ -1,7 +1,9 @@
 //! Theorems on runs whose lost packets come back. These functions exist for their proofs and do nothing.
 
+ghost use Rattle.codec_payload_answered_runs.specs.AnsweredRequests.{RequestsAreAnswered};
 ghost use Rattle.codec_payload_answered_runs.specs.AnsweredRuns.{AnswersFillGaps, AnswersServe, LostPacketsComeBack};
 ghost use Rattle.codec_payload_answered_runs.specs.AskedRuns.{RequestsFillGaps};
+ghost use Rattle.codec_payload_answered_runs.specs.ComeBackExample.{AnswersCanBeMet};
 ghost use Rattle.codec_payload_answered_runs.specs.FilledGaps.{FilledGapsLoseNone, FilledGapsLoseNoneWithHistory};
 ghost use Rattle.codec_payload_answered_runs.specs.Repeats.{RequestsAreRepeated};
 
@@ -14,6 +16,12 @@ pub fn requests_are_repeated()
 {
     nack_schedules_keep_their_settings();
 }
+
+/// A history with the interval 0 answers each request for one of the last datagrams, as many as its limit, and the answer repeats this
+/// datagram.
+pub fn requests_are_answered()
+    ensures { RequestsAreAnswered }
+{}
 
 /// If each gap is filled before a frame behind it is due, the pops of a run over datagrams return each unit, whole and in turn, and in
 /// time. So it is with retransmissions, too.
@@ -41,3 +49,9 @@ pub fn lost_packets_come_back()
 {
     nack_schedules_keep_their_settings();
 }
+
+/// The premises can be met: of three datagrams of Opus the second is lost, and the first request for it too. The second request is
+/// answered, and the answer arrives before the third datagram is due.
+pub fn answers_can_be_met()
+    ensures { AnswersCanBeMet }
+{}

@@ -1,5 +1,6 @@
 //! Whole runs of a sender and a receiver whose datagrams are lost, duplicated or reordered: the popped units are the sent ones.
 
+mod come_back;
 mod forwarded;
 mod forwarded_again;
 mod forwarded_ids;
@@ -20,6 +21,7 @@ mod sides;
 mod switched;
 mod switched_back;
 mod with_ids;
+mod witness_answers;
 mod witness_runs;
 mod witnesses;
 

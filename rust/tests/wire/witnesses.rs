@@ -1,12 +1,12 @@
 //! The runs of the theorems that premises can be met. A theorem has values of samples, steps, parts and results, and says: a run with
 //! these results meets the premises. Each test makes the parts by their constructors, executes the run, and finds these results.
 //!
-//! The fifteen theorems, each with a test of the same name (`scripts/documents.py` compares the names with the theorems): in this file
+//! The sixteen theorems, each with a test of the same name (`scripts/documents.py` compares the names with the theorems): in this file
 //! `premises_can_be_met`, `times_can_be_met`, `history_premises_can_be_met`, `restart_premises_can_be_met`, `red_premises_can_be_met`,
 //! `red_history_premises_can_be_met`, `forwarding_premises_can_be_met`, `leaving_premises_can_be_met` and
 //! `switching_premises_can_be_met`; in `witness_runs` `store_premises_can_be_met`, `switched_units_premises_can_be_met`,
 //! `switched_back_premises_can_be_met`, `serving_premises_can_be_met`, `serving_with_store_premises_can_be_met` and
-//! `serving_leaving_out_premises_can_be_met`.
+//! `serving_leaving_out_premises_can_be_met`; in `witness_answers` `answers_can_be_met`.
 
 use crate::Fail;
 use crate::forwarded_again::opus_samples;
@@ -42,18 +42,18 @@ const HISTORY: HistorySettings = HistorySettings {
     }),
 };
 
-fn send(sample: usize) -> DatagramStep {
+pub fn send(sample: usize) -> DatagramStep {
     DatagramStep::Send(sample)
 }
 
-fn deliver(datagram: usize, now: u64) -> DatagramStep {
+pub fn deliver(datagram: usize, now: u64) -> DatagramStep {
     DatagramStep::Deliver {
         datagram,
         now: Ticks(now),
     }
 }
 
-fn pop(now: u64) -> DatagramStep {
+pub fn pop(now: u64) -> DatagramStep {
     DatagramStep::Pop { now: Ticks(now) }
 }
 
@@ -87,7 +87,7 @@ pub fn sender_of_ids(change: impl FnOnce(&mut SenderSettings)) -> Result<Sender<
 }
 
 /// A receiver of that sender, with these changes of its settings.
-fn receiver(
+pub fn receiver(
     codec: Codec,
     change: impl FnOnce(&mut ReceiverSettings),
 ) -> Result<Receiver<NoBox>, Fail> {
