@@ -26,6 +26,7 @@ BUFFER, DATAGRAMS, FORWARD = 'codec_payload_buffer_runs', 'codec_payload_datagra
 SESSION, SERVER, TIMELY = 'codec_payload_session_runs', 'codec_payload_server_runs', 'codec_payload_timely_runs'
 
 RECEIVES = 'codec_payload_receiver.Sessions.ReceivesBytes'
+FOLLOWS = 'codec_payload_stream_edges.Following.Follows'
 POPS = 'codec_payload_receiver.Pops.PopsGated'
 ENDS = 'codec_payload_receiver.Sessions.Ends'
 NEW_RECEIVER = 'codec_payload_receiver.Sessions.session_by'
@@ -104,7 +105,7 @@ FILES = {
     'STREAM': {
         'statements': [(SESSION, 'Lives', 'IsAlone', 'run_new_session'), (SESSION, 'Endings', 'FinishesHaveCauses', 'finishes_have_causes')],
         'stops': {
-            RECEIVES: PASSED_ON, ENDS: PASSED_ON,
+            RECEIVES: PASSED_ON, ENDS: PASSED_ON, FOLLOWS: PASSED_ON + ' The rules and the edges before and after it are shown (`EdgesRun`).',
             POPS: PASSED_ON + ' What the pop answers, and that the session passes it on, is shown (`answer_of`, `NamesFault`, `released_by`).',
             NEW_RECEIVER: 'a function of the settings, so no two receivers meet it: the receiver has received nothing.',
             RUNS: 'it says which session there was when the stream began. The statement uses only its settings, which `pairs_alone` fixes except for the pairs, and that it had no such '
@@ -112,14 +113,15 @@ FILES = {
             NEW_SESSION: 'a function of the settings. `run_new_session` makes the session itself, so it is no premise.',
             NEW_DEPACKETIZER: A_TABLE, READS: 'a function of the bytes, proved against a grammar of packets both ways (`reading_follows_the_grammars`).'},
         'without': {'codec_payload_session_stream.Streams.Begins': (
-            ['feedback', 'late', 'sender_clock', 'was_reported', 'name_ids', 'names', 'last', 'bytes', 'accepted', 'taken'],
+            ['edges', 'feedback', 'late', 'sender_clock', 'was_reported', 'name_ids', 'names', 'last', 'bytes', 'accepted', 'taken'],
             'The session keeps these beside the receiver; the statement uses the receiver alone.')},
         'words': Words(
             'Make a session and any calls of it: datagrams of anybody, polls, ends, reports. For each stream that it has after these calls: its receiver was new at the datagram '
             'with which the stream began, with the settings of its format and its SSRC. From there on the receiver made the calls `own`, one after another, and nothing else changed '
             'it (`alone`). `own` consists of a part for each call of the session (`projects`). What answers show of the stream is in it exactly (`shows`): the datagrams that '
             'answers give to its SSRC and payload type, and the pops whose events are its units, refused frames or units that are too large. The rest is what `IsMadeAs` allows: at '
-            'most one pop, one end, one report and one pair for each call. Its events are in order, and none is an end (`tells`). The second clause says that the receiver was finished at '
+            'most one pop, one end, one report and one pair for each call, and after each datagram the numbers that carry no media by the edges of the stream, which follow one another '
+            'from none on (`edged`). Its events are in order, and none is an end (`tells`). The second clause says that the receiver was finished at '
             'most once, and only after a call that lets the stream end.',
             'The call returned Ok: the settings have no fault, and there was memory for the session and for the list of answers. Memory may run out in each call of the session.',
             'Which streams begin, or that a stream gets the datagrams that are meant for it (SESSIONS.md). That a receiver releases anything: DATAGRAMS.txt. Which `max_wait` within its '

@@ -180,12 +180,12 @@ abbrev pub names_at : Option ℕ → List StreamState → StreamNames
 names_at None ss = no_names
 names_at (Some place) ss = names_with (slice_get ss place)
 
-abbrev pub names_among : ℕ → List StreamState → StreamNames
-names_among ssrc ss = names_at (position (has_ssrc ssrc) ss) ss
+abbrev pub names_of_ssrc : ℕ → List StreamState → StreamNames
+names_of_ssrc ssrc ss = names_at (position (has_ssrc ssrc) ss) ss
 
 -- a new stream follows the round trip of the session, and has the names of its SSRC
 abbrev pub begun_in : (ssrc : ℕ) → Port → StreamState → StreamState
-begun_in ssrc p s = record (with_round_trip p.exchange.round_trip s) { names = names_among ssrc p.streams }
+begun_in ssrc p s = record (with_round_trip p.exchange.round_trip s) { names = names_of_ssrc ssrc p.streams }
 
 -- it receives the datagram, and is added
 pub record BeginsWith (settings : SessionSettings) (ssrc : ℕ) (f : Format) (now : Ticks) (bytes : List ℕ) (p : Port) (answer : Result Arrival AllocError) (q : Port) : Type 0 where

@@ -10,7 +10,7 @@ ghost use Rattle.codec_payload_session_formats.specs.Sorting.{sorted_packet, sor
 ghost use Rattle.codec_payload_session_stream.specs.Streams.{due_in, is_of, trip_if, trips_where, waiting_if, waiting_where};
 ghost use Rattle.codec_payload_session_stream.specs.Turns.{StepsFirst};
 ghost use Rattle.codec_payload_session.specs.Turns.{TakesTurn, after_step, told_by};
-ghost use Rattle.codec_payload_session.specs.Arrivals.{BeginsIf, BeginsOrFeeds, Feeds, TakesIn, TakesInAs, added, has_place, has_ssrc, includes, leaving, left_if, left_where, names_among, on_probation, removed, say_goodbye, TakesMedia};
+ghost use Rattle.codec_payload_session.specs.Arrivals.{BeginsIf, BeginsOrFeeds, Feeds, TakesIn, TakesInAs, added, has_place, has_ssrc, includes, leaving, left_if, left_where, names_of_ssrc, on_probation, removed, say_goodbye, TakesMedia};
 ghost use Rattle.codec_payload_session_stream.specs.Arrivals.{arrival_of};
 ghost use Rattle.codec_payload_session.specs.Ports.{ReportsIf, ReportsOn, everyone, no_port};
 ghost use Rattle.codec_payload_session_stream.specs.declared.stream.Ending.TheVariants as endings;
@@ -308,7 +308,7 @@ impl Streams {
 
     /// Returns the names of the first stream of this SSRC.
     fn names_of_ssrc(&self, ssrc: u32) -> StreamNames
-        ensures { result ≡ names_among ssrc self.now.streams }
+        ensures { result ≡ names_of_ssrc ssrc self.now.streams }
     {
         match self.place_of_ssrc(ssrc) {
             Some(place) => self.list[place].names,

@@ -21,7 +21,7 @@ use Rattle.codec_payload_session.specs.Keyframes.{asked_among, asked_with}
 use Rattle.codec_payload_session_requests.specs.declared.requests.KeyframeAnswer.{KeyframeAnswer}
 use Rattle.codec_payload_session_requests.specs.declared.requests.WaitRange.{WaitRange}
 use Rattle.codec_payload_session_stream.specs.Arrivals.{Arrives, arrival_of}
-use Rattle.codec_payload_session.specs.Arrivals.{BeginsIf, BeginsOrFeeds, BeginsWith, Feeds, FeedsIf, Port, TakesIn, TakesInAs, TakesMedia, goodbye_at, has_place, has_ssrc, left_if, left_where, on_probation, without, begun_in, names_among}
+use Rattle.codec_payload_session.specs.Arrivals.{BeginsIf, BeginsOrFeeds, BeginsWith, Feeds, FeedsIf, Port, TakesIn, TakesInAs, TakesMedia, goodbye_at, has_place, has_ssrc, left_if, left_where, on_probation, without, begun_in, names_of_ssrc}
 use Rattle.codec_payload_session_stream.specs.Changes.{continued, continues, is_left_behind, left_behind}
 use Rattle.codec_payload_session_stream.specs.Pairs.{paired_if, paired_when}
 use Rattle.codec_payload_session.specs.Ports.{ReportsIf}
@@ -172,7 +172,7 @@ begins_evolve settings ssrc f now micros datagram p answer q none known got =
     let arrives : Arrives (is_no_memory got.told) (arrival_of x.ssrc x.format.payload_type got.told) answer =
     subst (λ (b : Bool). Arrives b (arrival_of x.ssrc x.format.payload_type got.told) answer) (sym got.received) names in
     let fresh : StreamState = begun_in ssrc p x in
-    let goes : Goes c x y = told_goes c p.exchange.round_trip (names_among ssrc p.streams) x y (fed_goes now micros datagram settings.probation fresh got.told y answer got.takes arrives) in
+    let goes : Goes c x y = told_goes c p.exchange.round_trip (names_of_ssrc ssrc p.streams) x y (fed_goes now micros datagram settings.probation fresh got.told y answer got.takes arrives) in
     let ssrc_is : y.ssrc ≡ ssrc = goes.has.ssrc_is ∙ got.begins.ssrc_is in
     let format : y.format ≡ f = goes.has.format ∙ got.begins.format in
     let begins : BeginsNow settings c p.streams y = record {

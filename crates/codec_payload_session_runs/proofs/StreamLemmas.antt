@@ -22,7 +22,7 @@ use Rattle.codec_payload_session_formats.specs.Names.{names_after}
 use Rattle.codec_payload_session_requests.specs.Requests.{Asking, answered_if, heard_by, is_heard, number_at, wait_by}
 use Rattle.codec_payload_session_stream.specs.Trips.{with_round_trip}
 use Rattle.codec_payload_session_requests.specs.declared.requests.WaitRange.{WaitRange}
-use Rattle.codec_payload_session_stream.specs.Streams.{Drains, Follows, Plays, RequestsBy, RestsBy, Steps, StepsBy, Takes, accepted_after, end_by, end_of, heard_unless, is_accepted, is_keyframe, is_no_memory, is_probation, late_followed, late_noted, left_when, payload_size, received, stage_after, stage_left, step_of, step_with, waiting_for, Edges, Hears, edge_rules_of, with_edges}
+use Rattle.codec_payload_session_stream.specs.Streams.{Drains, Follows, Plays, RequestsBy, RestsBy, Steps, StepsBy, Takes, accepted_after, end_by, end_of, heard_unless, is_accepted, is_keyframe, is_no_memory, is_probation, late_followed, late_noted, left_when, payload_size, received, stage_after, stage_left, step_of, step_with, waiting_for, Edges, edge_rules_of, with_edges}
 use Rattle.codec_payload_session_stream.specs.Turns.{event_of}
 use Rattle.codec_payload_session.specs.Turns.{kept_after}
 use Rattle.codec_payload_session_formats.specs.declared.formats.Format.{Format}
@@ -34,13 +34,13 @@ use Rattle.codec_payload_session_stream.specs.declared.stream.Ending.{Ending}
 use Rattle.codec_payload_session_stream.specs.declared.stream.Stage.{Stage}
 use Rattle.codec_payload_session_stream.specs.declared.stream.Stage.TheVariants as stages
 use Rattle.codec_payload_session_stream.specs.declared.stream.StreamState.{StreamState}
-use Rattle.codec_payload_session_runs.proofs.AloneLemmas.{finishes_append, made_append, poll_of, pops_append, reports_append, runs_append, shown_append, polled_each, polled_edges}
+use Rattle.codec_payload_session_runs.proofs.AloneLemmas.{finishes_append, made_append, poll_of, pops_append, reports_append, runs_append, shown_append}
 use Rattle.codec_payload_session_runs.proofs.WaitRangeLemmas.{IsInRangeIf, age_in, answered_range, asks_range, heard_range, late_range, trip_in, trip_range_told}
-use Rattle.codec_payload_session_runs.specs.Lives.{AreMadeBy, AreOfOne, FollowedWaits, HasNoPair, IsGiven, IsInRange, IsPairOf, IsPart, NamesSsrc, ReceiverCall, RunsAlone, age_range, events_by, events_in, finishes, follows, given_by, is_same, many_finishes, many_pops, many_reports, one_call, one_event, pairs, pops, receives, released_by, reports, shown, shown_in, trip_range, waits, waits_of, with_shown, Answered, EdgesCall, EdgesRun, FollowEach, followed_by, notes, to_follow, answered_unless}
+use Rattle.codec_payload_session_runs.specs.Lives.{AreMadeBy, AreOfOne, FollowedWaits, HasNoPair, IsGiven, IsInRange, IsPairOf, IsPart, NamesSsrc, ReceiverCall, RunsAlone, age_range, events_by, events_in, finishes, follows, given_by, is_same, many_finishes, many_pops, many_reports, one_call, one_event, pairs, pops, receives, released_by, reports, shown, shown_in, trip_range, waits, waits_of, with_shown, EdgesCall, EdgesRun, FollowEach, notes, to_follow, answered_unless}
 use Rattle.codec_payload_session_runs.specs.SessionRuns.{Call}
 use Rattle.codec_payload_session_requests.specs.Named.{FollowsEdges, rules_for}
 use Rattle.codec_payload_stream_edges.specs.Brought.{can_say}
-use Rattle.codec_payload_stream_edges.specs.Following.{FollowsIf, Follows as FollowsBytes, has_come, is_stored}
+use Rattle.codec_payload_stream_edges.specs.Following.{FollowsIf, has_come, is_stored}
 use Rattle.codec_payload_stream_edges.specs.declared.followed.Followed.{Followed as KnownEdges}
 use Rattle.codec_payload_stream_edges.specs.declared.rules.EdgeRules.{EdgeRules}
 use Rattle.codec_payload_session_runs.specs.declared.run.SessionStep.TheVariants as calls

@@ -9,7 +9,6 @@ use Rattle.codec_payload_session_stream.specs.Units.{Event}
 use Rattle.codec_payload_session_stream.specs.declared.arrival.Arrival.TheVariants as arrivals
 use Rattle.codec_payload_session_runs.specs.Lives.{EdgesCall, FollowedWaits, IsInRange, IsPart, IsReportEvent, ReceiverCall, follows, many_reports, notes, pairs, receives, reports, shown_in}
 use Rattle.codec_payload_session_runs.specs.SessionRuns.{Call}
-use Rattle.codec_payload_session_runs.specs.declared.run.SessionStep.{SessionStep}
 use Rattle.codec_payload_session_runs.specs.declared.run.SessionStep.TheVariants as steps
 use Rattle.codec_payload_session_runs.specs.declared.run.StepAnswer.{StepAnswer}
 use Rattle.codec_payload_session_runs.specs.declared.run.StepAnswer.TheVariants as answers
