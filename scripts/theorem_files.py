@@ -39,6 +39,7 @@ DEPACKETIZES = 'codec_payload_codec.Depacketizers.DepacketizerStep'
 # What each stop is.
 STOPS = {
     RECEIVES: 'the contract of `Receiver::receive`: the receiver after these bytes, with this answer.',
+    FOLLOWS: 'the contract of `StreamEdges::follow`: the edges, and the receiver that records numbers without media, after these bytes.',
     POPS: 'the contract of `Receiver::pop`: the receiver after a pop, with this answer.',
     ENDS: 'the contract of `Receiver::finish`: no more datagrams come, so no pop waits.',
     NEW_RECEIVER: 'the contract of `Receiver::new`: the receiver with these settings before any datagram, or the setting that is out of range.',

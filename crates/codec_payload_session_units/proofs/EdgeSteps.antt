@@ -9,7 +9,6 @@ use Rattle.codec_payload_edges.specs.Senders.Call.{Checks, Hears}
 use Rattle.codec_payload_edges.specs.Senders.{Call as EdgeCall}
 use Rattle.codec_payload_edges.specs.declared.edge.Edge.{Edge}
 use Rattle.codec_payload_edges.specs.declared.pictures.Between.{Between}
-use Rattle.codec_payload_edges.specs.declared.pictures.Gaps.{Gaps}
 use Rattle.codec_payload_jitter.specs.Receiving.{Receiving}
 use Rattle.codec_payload_jitter.specs.declared.outcome.Outcome.{Outcome}
 use Rattle.codec_payload_receiver.specs.Sessions.{Session as Receiver}

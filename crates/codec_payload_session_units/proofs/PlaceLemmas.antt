@@ -1,5 +1,5 @@
 -- Where each datagram of a sender of video stands: which payload of which picture it carries.
-use Rattle.std.proofs.Common.{◌≡◌, ◌≢◌, ◌∙◌, ◌⊎◌, inl, inr, refl, sym, ap, subst, ℕ, zero, suc, ◌+◌, ◌-◌, ◌<◌, ◌≤◌, ◌||◌, ◌&&◌, eqb, List, [], ◌∷◌, ◌++◌, Bool, true, false, Option, Some, None, Result, Ok, Err, length, get_or, slice_get, arith}
+use Rattle.std.proofs.Common.{◌≡◌, ◌≢◌, ◌∙◌, ◌⊎◌, inl, inr, refl, sym, ap, subst, ℕ, zero, suc, ◌+◌, ◌-◌, ◌<◌, ◌≤◌, ◌||◌, ◌&&◌, eqb, List, [], ◌∷◌, ◌++◌, Bool, true, false, Option, Some, None, Ok, Err, length, get_or, slice_get, arith}
 use Rattle.std.specs.Prelude.{slice_index_or}
 use Rattle.std.proofs.lemmas.Bool.{cases_lt}
 use Rattle.codec_payload_base.specs.Answers.{Lands}
@@ -15,7 +15,7 @@ use Rattle.codec_payload_payloader.specs.Sending.{Sample}
 use Rattle.codec_payload_rtp.specs.RtpPackets as rtp
 use Rattle.codec_payload_rtp.specs.RtpReading.{rtp_at}
 use Rattle.codec_payload_sending.specs.Datagrams.{Sample as SentNow, AreSent, IsSentAt}
-use Rattle.codec_payload_sending.specs.Senders.{Refuses, Sending, Sends}
+use Rattle.codec_payload_sending.specs.Senders.{Sending}
 use Rattle.codec_payload_session_units.specs.OneSender.{SendsAll}
 
 -- ---- lists

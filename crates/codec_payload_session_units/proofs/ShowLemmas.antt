@@ -1,21 +1,20 @@
 -- What the edges of a stream see of its sender's datagrams: packets of a sender that sends in order, and media alone.
-use Rattle.std.proofs.Common.{◌≡◌, ◌≢◌, ◌∙◌, ◌⊎◌, inl, inr, refl, sym, ap, ap₂, subst, subst₂, ℕ, zero, suc, ◌+◌, ◌-◌, ◌*◌, ◌/◌, ◌%◌, ◌^◌, ◌<◌, ◌≤◌, ◌||◌, ◌&&◌, eqb, cond, List, [], ◌∷◌, ◌++◌, Bool, true, false, Option, Some, None, Result, Ok, Err, length, get_or, slice_get, arith}
+use Rattle.std.proofs.Common.{◌≡◌, ◌≢◌, ◌∙◌, ◌⊎◌, inl, inr, refl, sym, ap, ap₂, subst, subst₂, ℕ, zero, suc, ◌+◌, ◌*◌, ◌/◌, ◌%◌, ◌^◌, ◌<◌, ◌≤◌, ◌||◌, eqb, cond, List, [], ◌∷◌, ◌++◌, Bool, true, false, Option, Some, None, Ok, Err, length, get_or, slice_get, arith}
 use Rattle.std.specs.Int.{w16, to_be_bytes}
 use Rattle.std.proofs.lemmas.Bool.{cases_lt, eq-eqb, ne_eqb}
 use Rattle.codec_payload_base.specs.Described.{AnswersDescribed, described}
 use Rattle.codec_payload_base.specs.Extended.{extended}
-use Rattle.codec_payload_base.specs.declared.error.PacketError.{PacketError}
 use Rattle.codec_payload_base.specs.declared.wire.Codec.{Codec}
 use Rattle.codec_payload_base.specs.declared.wire.Codec.TheVariants as codecs
-use Rattle.codec_payload_codec.specs.Depacketizers.{DepacketizerKind, DepacketizerState, configured_depacketizer, depacketizer_state_for, kind_of_depacketizer}
+use Rattle.codec_payload_codec.specs.Depacketizers.{DepacketizerState, configured_depacketizer, depacketizer_state_for, kind_of_depacketizer}
 use Rattle.codec_payload_codec.specs.Depacketizers.{Vp8Payloads, Vp9Payloads}
-use Rattle.codec_payload_codec.specs.Packetizers.{PacketizerState, PacketizerStep, is_built_in, payloads_by}
+use Rattle.codec_payload_codec.specs.Packetizers.{PacketizerState, is_built_in, payloads_by}
 use Rattle.codec_payload_codec.specs.Packetizers.{AmrWbPacketizing, Av1Packetizing, BoxedPacketizing, ComfortNoisePacketizing, G711Packetizing, G722Packetizing, NullPacketizing, OpusPacketizing, TelePacketizing, Vp8Packetizing, Vp9Packetizing}
 use Rattle.codec_payload_datagram_runs.proofs.ReadingLemmas.{header_again, packet_at}
 use Rattle.codec_payload_datagram_runs.specs.Releases.{ReadsAs}
 use Rattle.codec_payload_datagram_runs.specs.declared.run.SentSample.{SentSample}
 use Rattle.codec_payload_edges.specs.Edges.{vp8_edge, vp9_edge}
-use Rattle.codec_payload_edges.specs.OwnSenders.{Answer, AreVp8Answers, AreVp9Answers, IsInOrder, Vp8SendsInOrder, Vp9SendsInOrder, own_sender, payload_at, pictures_of, sizes_of, start_of, stored_at}
+use Rattle.codec_payload_edges.specs.OwnSenders.{Answer, AreVp8Answers, AreVp9Answers, IsInOrder, Vp8SendsInOrder, Vp9SendsInOrder, own_sender, payload_at, pictures_of, sizes_of, start_of}
 use Rattle.codec_payload_edges.specs.Senders.{FindsNothing, HasMediaAlone, IsOf, Sender, SendsInOrder}
 use Rattle.codec_payload_edges.specs.declared.edge.Edge.{Edge}
 use Rattle.codec_payload_payloader.specs.Packets.{Packet}
@@ -35,7 +34,7 @@ use Rattle.codec_payload_stream_edges.specs.declared.rules.EdgeRules.{EdgeRules}
 use Rattle.codec_payload_vp8.specs.Vp8Sent.{Vp8Sends, advanced, gives_packets, header as vp8_header}
 use Rattle.codec_payload_session_units.specs.OneSender.{AreApartFrom, AreUndescribed, SendsAll}
 use Rattle.codec_payload_session_units.proofs.EdgeSteps.{IsShown}
-use Rattle.codec_payload_session_units.proofs.PlaceLemmas.{ArePartsOf, AreSteps, IsPartOf, MarksLast, Placing, sends_placing}
+use Rattle.codec_payload_session_units.proofs.PlaceLemmas.{ArePartsOf, AreSteps, IsPartOf, sends_placing}
 
 -- ---- a copy that the receiver has just received
 

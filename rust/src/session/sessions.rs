@@ -407,8 +407,8 @@ impl Session {
     ///
     /// A stream takes names from the packets that it accepts, under [`SessionSettings::name_ids`]: of media, of retransmissions, and
     /// without media. The latest value of each name is kept. A value without a byte, or of more than 32, is ignored. Senders stop
-    /// sending names once they know that they arrived, so a stream in another format under the same SSRC can lack them: ask for the
-    /// names of the earlier stream, which is kept for `bye_wait` of the settings at least. Allocates nothing.
+    /// sending names once they know that they arrived. So a stream begins with the names of the first other stream of its SSRC, as one
+    /// in another format that its sender left. Allocates nothing.
     ///
     /// [`SessionSettings::name_ids`]: crate::session::formats::SessionSettings::name_ids
     #[must_use]
