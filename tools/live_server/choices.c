@@ -1,17 +1,17 @@
-/* Which layers a viewer gets. The server lists what it can send to the viewer, with the rates that it measures; the path chooses the
- * highest choice that it carries. */
+/* Which layers a viewer gets. The server lists what it can send to the viewer, with the rates that it measures; the path chooses
+ * the highest choice that it carries. */
 #include "viewers.h"
 
 #include <sys/param.h>
 
 enum {
-    INTERVAL = 50000,       /* us between two choices, beside those after a report */
-    IN_TRIAL = 10000,       /* the same while a trial is filled */
-    TRIAL_ENDS = 200000,    /* us after its latest padding */
-    KEYFRAME_WITHIN = 200,  /* ms: a keyframe of a larger size is to be through by then */
-    LITTLE = 150,           /* ms: while more waits, of video the lowest temporal layer alone is sent, and no RED */
-    LOSSY = 20,             /* thousandths of the packets that are lost: see list_choices */
-    AHEAD = 150             /* percent: the path is tried up to so much of the highest choice */
+    INTERVAL = 50000,      /* us between two choices, beside those after a report */
+    IN_TRIAL = 10000,      /* the same while a trial is filled */
+    TRIAL_ENDS = 200000,   /* us after its latest padding */
+    KEYFRAME_WITHIN = 200, /* ms: a keyframe of a larger size is to be through by then */
+    LITTLE = 150,          /* ms: while more waits, of video the lowest temporal layer alone is sent, and no RED */
+    LOSSY = 20,            /* thousandths of the packets that are lost: see list_choices */
+    AHEAD = 150            /* percent: the path is tried up to so much of the highest choice */
 };
 
 /* What a viewer gets with a choice. */
@@ -42,14 +42,13 @@ static void add(list *to, peer *it, peer *from, int track, int temporal) {
     uint64_t video = it->media[VIDEO].used ? publisher_rate(from, track, temporal) : 0;
     bool begins = it->viewer[VIDEO].begun && track > it->viewer[VIDEO].track;
     to->layers[to->len] = (layers){track, temporal};
-    to->rates[to->len++] =
-        (cpay_path_choice){.rate = video + publisher_rate(from, AUDIO, 0),
-                           .begin = begins ? publisher_keyframe(from, track) * 8 * 1000 / KEYFRAME_WITHIN : 0};
+    to->rates[to->len++] = (cpay_path_choice){.rate = video + publisher_rate(from, AUDIO, 0),
+                                              .begin = begins ? publisher_keyframe(from, track) * 8 * 1000 / KEYFRAME_WITHIN : 0};
 }
 
-/* From the lowest to the highest. A larger size with a quarter of its frames is no choice: a person sees it stutter. On a path that
- * loses packets one with half of them is none either: a frame that waits for a retransmission is seen, too. The last choice is the
- * highest again, with a rate to spare: the path is tried up to it. */
+/* From the lowest to the highest. A larger size with a quarter of its frames is no choice: a person sees it stutter. On a path
+ * that loses packets one with half of them is none either: a frame that waits for a retransmission is seen, too. The last choice
+ * is the highest again, with a rate to spare: the path is tried up to it. */
 static void list_choices(list *to, peer *it, peer *from) {
     bool lossy = it->viewer[VIDEO].losses > LOSSY;
     to->len = 0;
@@ -70,8 +69,8 @@ static bool has_room_for_red(const viewer_path *path, peer *from, uint64_t rate)
     return !path->follows || path->state.estimate >= (rate + publisher_rate(from, AUDIO, 0) / 2) * 21 / 20;
 }
 
-/* Whether the last packet of each frame leaves twice: on a path that loses packets, with half of the frames or fewer, and room for a
- * third of the rate. */
+/* Whether the last packet of each frame leaves twice: on a path that loses packets, with half of the frames or fewer, and room
+ * for a third of the rate. */
 static bool has_room_for_tails(const peer *it, int temporal, uint64_t rate) {
     return it->path->follows && it->viewer[VIDEO].losses > LOSSY && temporal < 2 && it->path->state.estimate >= rate * 4 / 3;
 }
@@ -86,7 +85,7 @@ void path_choose(peer *it, peer *from, uint64_t now) {
     cpay_path_order_info order = {0};
     list all;
     uint64_t interval = path->filled && now - path->filled < TRIAL_ENDS ? IN_TRIAL : INTERVAL;
-    path->next_choice = (now / interval + 1) * interval; /* of all viewers at once */
+    path->next_choice = (now / interval + 1) * interval;    /* of all viewers at once */
     if (!from || !it->secure || path->unheard == 0) return; /* what is silent says nothing about the path */
     list_choices(&all, it, from);
     if (it->media[VIDEO].used && (all.rates[0].rate == 0 || !it->viewer[VIDEO].newest_len)) return;
@@ -99,7 +98,8 @@ void path_choose(peer *it, peer *from, uint64_t now) {
     uint64_t rate = all.rates[chosen < all.len - 1 ? chosen : chosen - 1].rate;
     bool late = is_late(path);
     path->tails = !late && has_room_for_tails(it, all.layers[chosen].temporal, rate);
-    viewer_goes_to(it, all.layers[chosen].track, late ? 0 : all.layers[chosen].temporal, !late && has_room_for_red(path, from, rate));
+    viewer_goes_to(it, all.layers[chosen].track, late ? 0 : all.layers[chosen].temporal,
+                   !late && has_room_for_red(path, from, rate));
     if (it->media[VIDEO].used && order.padding > 0) {
         path_fill(it, order.padding);
         path->filled = now;

@@ -69,7 +69,8 @@ void network_send(const struct sockaddr_in *to, size_t size) {
     out_len++;
 }
 
-/* How many datagrams from this place on the system cuts out of one: to one address, all of one size, and the last at most of it. */
+/* How many datagrams from this place on the system cuts out of one: to one address, all of one size, and the last at most of it.
+ */
 static unsigned segments_at(unsigned at) {
     size_t size = out_parts[at].iov_len, all = size;
     unsigned count = 1;
@@ -108,7 +109,7 @@ void network_flush(void) {
         firsts[count] = out_len;
         int sent = sendmmsg(network_port, heads, count, MSG_DONTWAIT);
         bool refused = sent < 0 && heads[0].msg_hdr.msg_iovlen > 1 && (errno == EIO || errno == EINVAL || errno == EOPNOTSUPP);
-        if (refused) cuts = false; /* each datagram alone from now on */
+        if (refused) cuts = false;               /* each datagram alone from now on */
         else done = firsts[sent > 0 ? sent : 1]; /* what the system refuses is lost */
     }
     out_len = 0;

@@ -7,12 +7,12 @@
 #include <string.h>
 
 enum {
-    CARRIED = 52,           /* bytes that a packet has on the path beside its RTP: its number, SRTP, UDP and IP */
-    SHARE = 500,            /* thousandths: at most half of the bytes that are sent are sent again */
-    OPEN = 100000000,       /* bits per second: the pace for a viewer that reports nothing */
-    UNHEARD = 2000000,      /* us after which a viewer counts as one that reports nothing */
+    CARRIED = 52,             /* bytes that a packet has on the path beside its RTP: its number, SRTP, UDP and IP */
+    SHARE = 500,              /* thousandths: at most half of the bytes that are sent are sent again */
+    OPEN = 100000000,         /* bits per second: the pace for a viewer that reports nothing */
+    UNHEARD = 2000000,        /* us after which a viewer counts as one that reports nothing */
     FIRST_ROUND_TRIP = 50000, /* us: before the first report */
-    OVERTAKEN = 10000,      /* us: a packet may be overtaken by those that left within them after it */
+    OVERTAKEN = 10000,        /* us: a packet may be overtaken by those that left within them after it */
     ROUND_TRIP_MARGIN = 10000 /* us: a report comes up to so much later */
 };
 
@@ -43,7 +43,7 @@ bool path_begin(peer *it) {
 static void give_up_feedback(peer *it) {
     cpay_path_free(&it->path->carries);
     if (!begin(it->path, false)) it->ended = true;
-    it->viewer[VIDEO].begun = false;
+    viewer_stops(it);
 }
 
 void path_free(peer *it) {
@@ -117,7 +117,8 @@ void path_remove_video(peer *it) {
 void path_fill(peer *it, uint32_t bytes) {
     const outgoing *to = &it->viewer[VIDEO];
     waiting one = {.what = AGAIN, .track = VIDEO, .number = to->newest};
-    for (size_t size = to->newest_len + CARRIED; bytes > 0 && to->newest_len > 0; bytes -= bytes < size ? bytes : (uint32_t)size) {
+    for (size_t size = to->newest_len + CARRIED; bytes > 0 && to->newest_len > 0;
+         bytes -= bytes < size ? bytes : (uint32_t)size) {
         path_push(it, CPAY_PATH_PADDING, one, to->newest_len);
         it->path->padding += size;
     }
@@ -152,7 +153,8 @@ static void send_packet(peer *it, peer *from, const cpay_path_leaving *leaving, 
     path->unheard++;
     if (!path->first_left) path->first_left = now;
     srtp_send(it, out, numbers ? length : size, false);
-    if (from && path->tails && one.what == PACKET && one.track != AUDIO && out[1] & 0x80) viewer_resend(it, from, VIDEO, path->left[place].repeats);
+    if (from && path->tails && one.what == PACKET && one.track != AUDIO && out[1] & 0x80)
+        viewer_resend(it, from, VIDEO, path->left[place].repeats);
 }
 
 void path_send(peer *it, peer *from, uint64_t now) {
@@ -162,7 +164,9 @@ void path_send(peer *it, peer *from, uint64_t now) {
     note_deadline(path);
 }
 
-uint64_t path_deadline(const peer *it) { return it->path->deadline < it->path->next_choice ? it->path->deadline : it->path->next_choice; }
+uint64_t path_deadline(const peer *it) {
+    return it->path->deadline < it->path->next_choice ? it->path->deadline : it->path->next_choice;
+}
 
 void path_serve(peer *it, peer *from, uint64_t now) {
     if (it->path->next_choice <= now) tick(it, from, now);

@@ -1,5 +1,5 @@
-/* SRTP of what leaves, with AES in GCM (RFC 7714), by OpenSSL. Debian's libsrtp has NSS below it, whose call for a packet takes several
- * times as long. All else of SRTP is libsrtp: what comes, RTCP, and other profiles. */
+/* SRTP of what leaves, with AES in GCM (RFC 7714), by OpenSSL. Debian's libsrtp has NSS below it, whose call for a packet takes
+ * several times as long. All else of SRTP is libsrtp: what comes, RTCP, and other profiles. */
 #include "server.h"
 
 #include <libavutil/intreadwrite.h>

@@ -1,4 +1,5 @@
-/* protect.c beside libsrtp: the same bytes for 400,000 packets of four streams, whose numbers come to 0 again, are late, and come twice. */
+/* protect.c beside libsrtp: the same bytes for 400,000 packets of four streams, whose numbers come to 0 again, are late, and come
+ * twice. */
 #include "server.h"
 
 #include <libavutil/intreadwrite.h>
@@ -32,7 +33,8 @@ int main(void) {
         if (place > STREAMS * BEHIND && drand48() < 0.1) number -= (uint32_t)(drand48() * BEHIND);
         int size = (int)write_packet(ours, ssrc, number), length = size;
         memcpy(theirs, ours, (size_t)size);
-        if (!protect_packet(it, ours, &size) || srtp_protect(out, theirs, &length) || size != length || memcmp(ours, theirs, (size_t)size)) {
+        if (!protect_packet(it, ours, &size) || srtp_protect(out, theirs, &length) || size != length ||
+            memcmp(ours, theirs, (size_t)size)) {
             printf("packet %u differs\n", number);
             return EXIT_FAILURE;
         }

@@ -45,7 +45,8 @@ static bool begin_stream(outgoing *to, const agreed *media) {
 /* A viewer begins with the smallest size, unless it reports nothing about its path. */
 const char *viewer_begin(peer *it, peer *of) {
     const agreed *video = &it->media[VIDEO];
-    if (video->used && !video->rtx_payload_type) it->transport_id = 0; /* a packet that leaves again has its own bytes: see path.c */
+    if (video->used && !video->rtx_payload_type)
+        it->transport_id = 0; /* a packet that leaves again has its own bytes: see path.c */
     it->viewer = of ? calloc(KINDS, sizeof *it->viewer) : NULL;
     if (!it->viewer || !path_begin(it)) return "Out of memory.\n";
     for (int kind = 0; kind < KINDS; kind++) {
@@ -88,7 +89,8 @@ static const uint8_t *packet_of(peer *from, const waiting *one, uint8_t *room, s
         return fresh.bytes;
     }
     if (!of->arrived || of->ssrc != one->ssrc) return NULL;
-    bool gone = cpay_history_resend(&of->store, 0, one->number, room, MOST_DATAGRAM, size, &found) || found != CPAY_RESENT_WRITTEN;
+    bool gone =
+        cpay_history_resend(&of->store, 0, one->number, room, MOST_DATAGRAM, size, &found) || found != CPAY_RESENT_WRITTEN;
     return gone ? NULL : room;
 }
 
@@ -101,7 +103,8 @@ static size_t write_packet(peer *it, peer *from, const waiting *one, uint8_t *ou
     cpay_forwarded done = CPAY_FORWARDED_OTHER_SOURCE;
     const uint8_t *datagram = packet_of(from, one, store, &datagram_len);
     uint64_t ticks = now_us() * rate_of(kind) / 1000000;
-    if (!datagram || cpay_forwarder_write(&to->forwarder, ticks, datagram, datagram_len, out, room, &size, &done) || size == 0) return 0;
+    if (!datagram || cpay_forwarder_write(&to->forwarder, ticks, datagram, datagram_len, out, room, &size, &done) || size == 0)
+        return 0;
     bool in_red = it->media[kind].red_payload_type && !to->without_red;
     if (in_red) size = wrap(to, it->media[kind].red_payload_type, out, size);
     if (kind == VIDEO && (size >= LARGE || to->newest_len < LARGE || (uint16_t)(AV_RB16(out + 2) - to->newest) > 128)) {
@@ -116,7 +119,8 @@ static size_t write_again(peer *it, peer *from, const waiting *one, uint8_t *out
     outgoing *to = &it->viewer[one->track];
     size_t size = 0;
     cpay_resent resent = CPAY_RESENT_NOT_KEPT;
-    cpay_status status = cpay_forwarder_resend(&to->forwarder, &publisher_source(from, to->track)->store, one->number, out, room, &size, &resent);
+    cpay_status status =
+        cpay_forwarder_resend(&to->forwarder, &publisher_source(from, to->track)->store, one->number, out, room, &size, &resent);
     return status == CPAY_OK || status == CPAY_TOO_SMALL ? size : 0;
 }
 
@@ -146,16 +150,19 @@ void viewer_leave_out(peer *it, peer *from, const waiting *one) {
 
 /* ---- which packets a viewer is to get ---- */
 
-/* Goes over to layers. What waits of a larger size is not sent any more: its keyframe comes too late for the path. */
+void viewer_stops(peer *it) {
+    path_remove_video(it);
+    it->viewer[VIDEO].begun = false;
+    if (it->media[VIDEO].used) (void)!cpay_forwarder_mute(&it->viewer[VIDEO].forwarder);
+}
+
+/* Goes over to layers. What waits of a larger size is not sent any more: the path would carry it too late. */
 void viewer_goes_to(peer *it, int track, int temporal, bool red) {
     outgoing *to = &it->viewer[VIDEO];
     it->viewer[AUDIO].without_red = !red;
     to->temporal = temporal;
     to->wanted = track;
-    if (!to->begun || track >= to->track) return;
-    path_remove_video(it);
-    to->begun = false;
-    (void)!cpay_forwarder_mute(&to->forwarder);
+    if (to->begun && track < to->track) viewer_stops(it);
 }
 
 /* Whether a packet is the first of a keyframe with which the viewer goes over to another source. */
@@ -174,8 +181,8 @@ static bool is_current(outgoing *to, int track, const cpay_rtp_info *info) {
     return true;
 }
 
-/* Whether a packet of video is left out: all packets of a picture, or none. More layers begin with a picture that refers to layers
- * below alone. */
+/* Whether a packet of video is left out: all packets of a picture, or none. More layers begin with a picture that refers to
+ * layers below alone. */
 static bool is_left_out(outgoing *to, cpay_codec codec, const cpay_rtp_info *info, const uint8_t *datagram) {
     cpay_temporal_layer_info layer = {0};
     const uint8_t *payload = datagram + info->payload_at;
@@ -204,7 +211,9 @@ static bool offer(peer *it, peer *from, int track, const cpay_rtp_info *info, co
     }
     if (!is_current(to, track, info)) return false;
     if (kind == VIDEO && is_left_out(to, codec, info, datagram)) path_leave_out(it, from, one);
-    else path_push(it, kind == AUDIO ? CPAY_PATH_AUDIO : CPAY_PATH_MEDIA, one, HEADER + info->payload_len * (kind == AUDIO ? 2 : 1));
+    else
+        path_push(it, kind == AUDIO ? CPAY_PATH_AUDIO : CPAY_PATH_MEDIA, one,
+                  HEADER + info->payload_len * (kind == AUDIO ? 2 : 1));
     return began;
 }
 
@@ -334,7 +343,8 @@ void viewer_tick(peer *it, uint64_t now) {
 
 /* ---- the viewer's wishes, and its counts ---- */
 
-/* `T0` to `T3`: the highest temporal layer. A RID: this size. `fits`: the size that fits the path; `fits RID`: at most this one. */
+/* `T0` to `T3`: the highest temporal layer. A RID: this size. `fits`: the size that fits the path; `fits RID`: at most this one.
+ */
 bool viewer_wants_layer(peer *it, const char *name) {
     const peer *from = peer_publisher(it->name);
     wishes *wish = it->viewer ? &it->path->wishes : NULL;
@@ -358,8 +368,11 @@ bool viewer_wants_layer(peer *it, const char *name) {
 }
 
 static void path_stats(const viewer_path *path, FILE *to) {
-    fprintf(to, COUNT("estimate") COUNT("queued") COUNT("dropped") COUNT("padding") COUNT("pathRoundTrip") "\"choice\":%d,\"rates\":[",
-            path->follows ? path->state.estimate : 0, path->state.waiting, path->dropped, path->padding, path->round_trip / 1000, path->choice);
+    fprintf(to,
+            COUNT("estimate") COUNT("queued") COUNT("dropped") COUNT("padding")
+                COUNT("pathRoundTrip") "\"choice\":%d,\"rates\":[",
+            path->follows ? path->state.estimate : 0, path->state.waiting, path->dropped, path->padding, path->round_trip / 1000,
+            path->choice);
     for (size_t i = 0; i < path->rates_len; i++) fprintf(to, "%s%" PRIu64, i ? "," : "", path->rates[i]);
     fputs("],", to);
 }

@@ -5,8 +5,8 @@
 #include "server.h"
 
 enum {
-    ALL_LAYERS = 3,    /* more than the highest temporal layer of VP8 that browsers send */
-    HEADER = 12,       /* bytes of an RTP header without extension */
+    ALL_LAYERS = 3, /* more than the highest temporal layer of VP8 that browsers send */
+    HEADER = 12,    /* bytes of an RTP header without extension */
     MOST_CHOICES = 3 + 2 * (MOST_LAYERS - 1) + 1,
     MOST_FILLED = 64,  /* packets of padding that are kept for requests */
     MOST_LEFT = 1024,  /* packets that left of which a report may come */
@@ -58,22 +58,22 @@ typedef struct {
 /* The path to a viewer. Times are in microseconds. */
 struct viewer_path {
     cpay_path carries;
-    bool begun;                  /* a packet was pushed */
-    bool follows;                /* the viewer reports when each packet arrived */
-    uint64_t deadline;           /* when a packet leaves next */
-    uint64_t next_choice;        /* when layers are chosen next */
-    uint64_t filled;             /* when a trial was filled last; 0: never */
-    uint64_t first_left, heard;  /* when the first packet left, and when the latest feedback came; 0: never */
-    uint64_t unheard;            /* packets that left since then */
-    uint64_t round_trip;         /* by feedback */
-    uint64_t dropped, padding;   /* packets for which the queue had no room; bytes that filled trials */
-    cpay_path_state_info state;  /* at the latest choice */
+    bool begun;                 /* a packet was pushed */
+    bool follows;               /* the viewer reports when each packet arrived */
+    uint64_t deadline;          /* when a packet leaves next */
+    uint64_t next_choice;       /* when layers are chosen next */
+    uint64_t filled;            /* when a trial was filled last; 0: never */
+    uint64_t first_left, heard; /* when the first packet left, and when the latest feedback came; 0: never */
+    uint64_t unheard;           /* packets that left since then */
+    uint64_t round_trip;        /* by feedback */
+    uint64_t dropped, padding;  /* packets for which the queue had no room; bytes that filled trials */
+    cpay_path_state_info state; /* at the latest choice */
     struct {
-        uint32_t at;     /* when it left, modulo 2^32 */
-        uint16_t number; /* transport-wide */
-        uint16_t repeats; /* the number in the viewer's stream, with a retransmission the one that it repeats */
-        bool is_video;    /* if it is lost, it leaves again without a request */
-    } left[MOST_LEFT];   /* the latest packets that left, by their numbers */
+        uint32_t at;             /* when it left, modulo 2^32 */
+        uint16_t number;         /* transport-wide */
+        uint16_t repeats;        /* the number in the viewer's stream, with a retransmission the one that it repeats */
+        bool is_video;           /* if it is lost, it leaves again without a request */
+    } left[MOST_LEFT];           /* the latest packets that left, by their numbers */
     waiting order[MOST_ORDERED]; /* of video, in a ring: what is left out keeps its place */
     size_t order_first, order_len;
     bool tails; /* the last packet of a frame leaves twice: the viewer would see its loss with the next frame */
@@ -87,6 +87,7 @@ struct viewer_path {
 size_t viewer_write(peer *it, peer *from, const waiting *one, uint8_t *out, size_t room); /* 0: there is nothing to send */
 void viewer_leave_out(peer *it, peer *from, const waiting *one);
 void viewer_resend(peer *it, peer *from, int kind, uint16_t number);
+void viewer_stops(peer *it); /* its video goes on with the next keyframe */
 void viewer_goes_to(peer *it, int track, int temporal, bool red);
 
 /* path.c */
