@@ -213,13 +213,13 @@ def units_under_loss():
 # The layers of the crates, from the top: groups with a title, and their crates in lines. A crate uses crates of its layer and of
 # the layers below.
 LAYERS = (
-    (("library for C", "c/c_receiving c_packets/c_path handle"), ("packets and frames, in Rattle", "core"), ("theorems on whole runs", "server_runs session_units/session_runs timely_runs/forward_runs datagram_runs/buffer_runs"),
+    (("library for C", "c/c_receiving c_packets/c_path handle"), ("packets and frames, in Rattle", "core"), ("theorems on whole runs", "server_runs session_units/session_runs timely_runs/forward_runs fec_runs/datagram_runs buffer_runs"),
      ("tests", "codec_tests run_tests/datagram_tests"), ("a program", "vectors/lines")),
     (("all streams of a port", "session session_stream/session_requests session_formats"),),
     (("receiving", "receiver stream_edges/datagrams jitter numbers/keyframes references buffer/contiguity metadata/queue index"),
      ("feedback", "feedback feedback_requests feedback_transport/feedback_wait feedback_congestion/feedback_ccfb feedback_xr"),
      ("sending, and what viewers see", "payloader sending sending_red/sending_history sending_forward/feedback_freezes bandwidth/bandwidth_pacer bandwidth_layers/bandwidth_estimate/bandwidth_estimator bandwidth_path")),
-    (("payload formats", "codec audio vp8 vp9 av1"), ("repetition", "red fec"), ("what frames say", "media vpx layers edges/descriptor syntax"), ("packets", "rtp rtcp")),
+    (("payload formats", "codec audio vp8 vp9 av1"), ("repetition", "red fec/fec_receiver"), ("what frames say", "media vpx layers edges/descriptor syntax"), ("packets", "rtp rtcp")),
     (("what all share", "base"),),
 )
 # Pixels: of the picture's width, of a letter, of a crate's box, between things.

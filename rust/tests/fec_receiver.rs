@@ -93,13 +93,24 @@ fn extension(elements: &[(u8, Vec<u8>)], long: bool, gaps: u64) -> Vec<u8> {
     while words.len() % 4 != 0 {
         words.push(0);
     }
-    let mut out = if long { vec![0x10, 0x00] } else { vec![0xbe, 0xde] };
+    let mut out = if long {
+        vec![0x10, 0x00]
+    } else {
+        vec![0xbe, 0xde]
+    };
     out.extend(((words.len() / 4) as u16).to_be_bytes());
     out.extend(words);
     out
 }
 
-fn packet(first: u8, second: u8, number: u16, time: u32, extension: &[u8], payload: &[u8]) -> Vec<u8> {
+fn packet(
+    first: u8,
+    second: u8,
+    number: u16,
+    time: u32,
+    extension: &[u8],
+    payload: &[u8],
+) -> Vec<u8> {
     let mut out = vec![first, second];
     out.extend(number.to_be_bytes());
     out.extend(time.to_be_bytes());
@@ -112,7 +123,10 @@ fn packet(first: u8, second: u8, number: u16, time: u32, extension: &[u8], paylo
 fn media(random: &mut Random, number: u16, largest: u64) -> Sent {
     let values = elements(random);
     let (long, gaps) = (random.below(3) == 0, random.next());
-    let written: Vec<(u8, Vec<u8>)> = values.iter().map(|(id, value, _)| (*id, value.clone())).collect();
+    let written: Vec<(u8, Vec<u8>)> = values
+        .iter()
+        .map(|(id, value, _)| (*id, value.clone()))
+        .collect();
     let zeros: Vec<(u8, Vec<u8>)> = values
         .iter()
         .map(|(id, value, late)| {
@@ -126,7 +140,10 @@ fn media(random: &mut Random, number: u16, largest: u64) -> Sent {
     let (late, early) = if values.is_empty() {
         (Vec::new(), Vec::new())
     } else {
-        (extension(&written, long, gaps), extension(&zeros, long, gaps))
+        (
+            extension(&written, long, gaps),
+            extension(&zeros, long, gaps),
+        )
     };
     let first = 0x80 | (u8::from(!values.is_empty()) << 4);
     let marker = (random.below(2) as u8) << 7;
@@ -203,7 +220,9 @@ fn each_rebuilt_packet_was_sent_whatever_is_lost_repeated_or_late() -> Result<()
         let base = number;
         let most = if random.below(10) == 0 { places } else { 6 };
         let count = 1 + random.below(most) as u16;
-        let group: Vec<Sent> = (0..count).map(|i| media(&mut random, base.wrapping_add(i), 60)).collect();
+        let group: Vec<Sent> = (0..count)
+            .map(|i| media(&mut random, base.wrapping_add(i), 60))
+            .collect();
         number = number.wrapping_add(count);
         let mut datagrams: Vec<(u64, Vec<u8>)> = Vec::new();
         for one in &group {
@@ -228,7 +247,10 @@ fn each_rebuilt_packet_was_sent_whatever_is_lost_repeated_or_late() -> Result<()
                 continue;
             }
             if random.below(10) > 0 {
-                datagrams.push((random.below(30), in_red(number, &fec_of(base, long, &chosen))));
+                datagrams.push((
+                    random.below(30),
+                    in_red(number, &fec_of(base, long, &chosen)),
+                ));
             }
             number = number.wrapping_add(1);
         }
@@ -256,7 +278,9 @@ fn the_only_lost_packet_of_a_group_is_rebuilt_at_once() -> Result<(), Fail> {
         let mut receiver = FecReceiver::new(SETTINGS)?;
         let (base, long) = (random.next() as u16, round % 2 == 0);
         let count = 1 + random.below(if long { 48 } else { 16 }) as u16;
-        let group: Vec<Sent> = (0..count).map(|i| media(&mut random, base.wrapping_add(i), 100)).collect();
+        let group: Vec<Sent> = (0..count)
+            .map(|i| media(&mut random, base.wrapping_add(i), 100))
+            .collect();
         let all: Vec<&[u8]> = group.iter().map(|one| one.plain.as_slice()).collect();
         let lost = random.below(u64::from(count)) as usize;
         let mut datagrams: Vec<Vec<u8>> = group.iter().map(|one| one.in_red.clone()).collect();
@@ -282,8 +306,17 @@ fn a_rebuilt_packet_helps_to_rebuild_another_one() -> Result<(), Fail> {
     let plain: Vec<&[u8]> = group.iter().map(|one| one.plain.as_slice()).collect();
     let mut receiver = FecReceiver::new(SETTINGS)?;
     assert_eq!(pass(&mut receiver, &group[0].in_red)?, None);
-    assert_eq!(pass(&mut receiver, &in_red(14, &fec_of(10, false, &[plain[1], plain[2]])))?, None);
-    let first = pass(&mut receiver, &in_red(15, &fec_of(10, false, &[plain[0], plain[1]])))?;
+    assert_eq!(
+        pass(
+            &mut receiver,
+            &in_red(14, &fec_of(10, false, &[plain[1], plain[2]]))
+        )?,
+        None
+    );
+    let first = pass(
+        &mut receiver,
+        &in_red(15, &fec_of(10, false, &[plain[0], plain[1]])),
+    )?;
     assert_eq!(first.as_deref(), Some(plain[1]));
     let second = pass(&mut receiver, &group[3].in_red)?;
     assert_eq!(second.as_deref(), Some(plain[2]));
@@ -299,13 +332,22 @@ fn datagrams_that_are_not_of_the_stream_change_nothing() -> Result<(), Fail> {
     let mut other = group[1].plain.clone();
     other[8] ^= 1;
     let two_blocks = packet(0x80, RED, 11, 1, &[], &[0x80 | MEDIA, 0, 0, 1, MEDIA, 7, 8]);
-    let strangers = [other, two_blocks, vec![0x80, 200, 0, 1, 0, 0, 0, 0], vec![1, 2], packet(0x80, RED, 11, 1, &[], &[])];
+    let strangers = [
+        other,
+        two_blocks,
+        vec![0x80, 200, 0, 1, 0, 0, 0, 0],
+        vec![1, 2],
+        packet(0x80, RED, 11, 1, &[], &[]),
+    ];
     let mut receiver = FecReceiver::new(SETTINGS)?;
     receiver.receive(&group[0].in_red)?;
     for stranger in &strangers {
         assert_eq!(pass(&mut receiver, stranger)?, None);
     }
-    assert_eq!(pass(&mut receiver, &in_red(13, &fec_of(10, false, &plain)))?, None);
+    assert_eq!(
+        pass(&mut receiver, &in_red(13, &fec_of(10, false, &plain)))?,
+        None
+    );
     let rebuilt = pass(&mut receiver, &group[2].in_red)?;
     assert_eq!(rebuilt.as_deref(), Some(plain[1]));
     Ok(())
@@ -328,7 +370,29 @@ fn a_restart_and_a_jump_of_the_numbers_forget_all() -> Result<(), Fail> {
         }
         assert_eq!(pass(&mut receiver, &fec)?, None);
         assert_eq!(pass(&mut receiver, &group[0].in_red)?, None);
-        assert_eq!(pass(&mut receiver, &group[2].in_red)?.as_deref(), Some(plain[1]));
+        assert_eq!(
+            pass(&mut receiver, &group[2].in_red)?.as_deref(),
+            Some(plain[1])
+        );
+    }
+    Ok(())
+}
+
+/// The first packet that comes is any one of its group, and its number any number: also right after a turn of the numbers.
+#[test]
+fn the_first_packet_has_any_number() -> Result<(), Fail> {
+    let mut random = Random(12);
+    for base in [0u16, 1, 32_767, 32_768, 65_534, 65_535] {
+        for came in 0..2usize {
+            let group: Vec<Sent> = (0..2u16)
+                .map(|i| media(&mut random, base.wrapping_add(i), 100))
+                .collect();
+            let plain: Vec<&[u8]> = group.iter().map(|one| one.plain.as_slice()).collect();
+            let mut receiver = FecReceiver::new(SETTINGS)?;
+            receiver.receive(&group[came].in_red)?;
+            let fec = in_red(base.wrapping_add(2), &fec_of(base, false, &plain));
+            assert_eq!(pass(&mut receiver, &fec)?.as_deref(), Some(plain[1 - came]));
+        }
     }
     Ok(())
 }

@@ -1,6 +1,6 @@
 -- The calls on a receiver of FEC.
 use Rattle.std.specs.Prelude.{◌≡◌, ◌⊎◌, ℕ, ◌==◌, if◌then◌else◌, List, Option, Some, None}
-use Rattle.codec_payload_fec_receiver.specs.States.{after_tries, emptied, new_state, next_of, received, stale}
+use Rattle.codec_payload_fec_receiver.specs.States.{after_tries, forgotten, new_state, next_of, received}
 use Rattle.codec_payload_fec_receiver.specs.declared.content.FecSettings.{FecSettings}
 use Rattle.codec_payload_c_path.specs.Held.{FecHeld, held_of}
 use Rattle.codec_payload_c_path.specs.Writing.{IsUnwritten, PutsPacket, Writing}
@@ -58,4 +58,4 @@ FetchesPacket r status w s =
 
 -- nothing is held any more
 abbrev pub restarted : FecHeld → FecHeld
-restarted r = record { receiver = stale (emptied r.receiver); packet = None }
+restarted r = record { receiver = forgotten r.receiver; packet = None }

@@ -37,14 +37,14 @@ marked_more number i fecs before fec d new small same so_far is became =
 
 -- ---- one packet of FEC is dropped, or waits
 
-pub dropped_is : (settings : FecSettings) (first : ℕ) (store : Store) (fecs left : List LentFec) (is_fresh : Bool) (s : State) (place : ℕ)
+pub dropped_is : (settings : FecSettings) (first : Option ℕ) (store : Store) (fecs left : List LentFec) (is_fresh : Bool) (s : State) (place : ℕ)
     → record { settings = settings; first = first; store = store; fecs = map held_fec fecs; is_fresh = is_fresh } ≡ s → left ≡ remove fecs place
     → record { settings = settings; first = first; store = store; fecs = map held_fec left; is_fresh = is_fresh } ≡ without place s
 dropped_is settings first store fecs left is_fresh s place is e =
     let with : List OpenFec → State = λ fs. record { settings = settings; first = first; store = store; fecs = fs; is_fresh = is_fresh } in
     ap with (ap (map held_fec) e ∙ map_remove held_fec fecs place) ∙ ap (without place) is
 
-pub waits_is : (settings : FecSettings) (first : ℕ) (store : Store) (fecs : List LentFec) (is_fresh : Bool) (s : State) (place : ℕ) (item new : LentFec)
+pub waits_is : (settings : FecSettings) (first : Option ℕ) (store : Store) (fecs : List LentFec) (is_fresh : Bool) (s : State) (place : ℕ) (item new : LentFec)
     → record { settings = settings; first = first; store = store; fecs = map held_fec fecs; is_fresh = is_fresh } ≡ s → place < length fecs → item ≡ get_or fecs place item
     → held_fec new ≡ record { bytes = item.bytes.items; is_due = false }
     → record { settings = settings; first = first; store = store; fecs = map held_fec (set fecs place new); is_fresh = is_fresh } ≡ waiting place s

@@ -286,12 +286,12 @@ module _ (sent : ℕ → Option (List ℕ)) where
     pub low : a ≤ h
     pub high : h < a + 32768
     pub early : 65536 ≤ h
-    pub first : s.first ≡ a % 65536
+    pub first : s.first ≡ Some (a % 65536)
     pub holds : Holds ss a s
 
   -- before the first packet it holds nothing, so any window will do
   abbrev pub Stands : FecSettings → Option ℕ → State → Type 0
-  Stands ss None s = (s.first < 65536) × ((a : ℕ) → Holds ss a s)
+  Stands ss None s = IfSome s.first (λ first. first < 65536) × ((a : ℕ) → Holds ss a s)
   Stands ss (Some h) s = Placed ss h s
 
   -- the window has the number
@@ -300,7 +300,7 @@ module _ (sent : ℕ → Option (List ℕ)) where
     low : placed.a ≤ number
     high : number < placed.a + 32768
 
-  emptied_holds : (ss : FecSettings) (a first : ℕ) (s : State) → s.settings ≡ ss → Holds ss a (record (emptied s) { first = first })
+  emptied_holds : (ss : FecSettings) (a : ℕ) (first : Option ℕ) (s : State) → s.settings ≡ ss → Holds ss a (record (emptied s) { first = first })
   emptied_holds ss a first s same = record {
     settings = same;
     held = λ n. let P : Option (List ℕ) → Type 0 = λ o. IfSome o (IsHeld a) in subst P (sym (none_found n)) tt;
@@ -308,38 +308,39 @@ module _ (sent : ℕ → Option (List ℕ)) where
   }
 
   -- another window begins
-  begins : (ss : FecSettings) (h number : ℕ) (s : State) → s.settings ≡ ss → 65536 ≤ h → number ≤ h → h < number + 16384 → Enters ss h number (record (emptied s) { first = (number % 65536 + 49152) % 65536 })
+  begins : (ss : FecSettings) (h number : ℕ) (s : State) → s.settings ≡ ss → 65536 ≤ h → number ≤ h → h < number + 16384 → Enters ss h number (record (emptied s) { first = Some ((number % 65536 + 49152) % 65536) })
   begins ss h number s same early up near = record {
     placed = record {
       a = number - 16384;
       low = omega (arith, early, up, near);
       high = omega (arith, early, up, near);
       early = early;
-      first = beyond_is number (omega (arith, early, near));
-      holds = emptied_holds ss (number - 16384) ((number % 65536 + 49152) % 65536) s same;
+      first = ap (λ (n : ℕ). Some n) (beyond_is number (omega (arith, early, near)));
+      holds = emptied_holds ss (number - 16384) (Some ((number % 65536 + 49152) % 65536)) s same;
     };
     low = omega (arith, early, near);
     high = omega (arith, early, near);
   }
 
   -- the number is within the window, or begins another one
-  enters_first : (ss : FecSettings) (number : ℕ) (s : State) (b : Bool) → is_within s.first (number % 65536) ≡ b → 65536 ≤ number → s.first < 65536 → ((a : ℕ) → Holds ss a s)
-      → Enters ss number number (cond b s (record (emptied s) { first = (number % 65536 + 49152) % 65536 }))
-  enters_first ss number s true is early small h =
-      let d : ℕ = (number % 65536 + 65536 - s.first) % 65536 in
+  enters_first : (ss : FecSettings) (number : ℕ) (s : State) (first : Option ℕ) (b : Bool) → s.first ≡ first → is_within first (number % 65536) ≡ b → 65536 ≤ number → IfSome first (λ f. f < 65536) → ((a : ℕ) → Holds ss a s)
+      → Enters ss number number (cond b s (record (emptied s) { first = Some ((number % 65536 + 49152) % 65536) }))
+  enters_first ss number s None true same is early small h = absurd cc
+  enters_first ss number s (Some first) true same is early small h =
+      let d : ℕ = (number % 65536 + 65536 - first) % 65536 in
       let near : d < 32768 = ltb-true d 32768 is in
       record {
-        placed = record { a = number - d; low = omega (arith, near); high = omega (arith, near, early); early = early; first = start_is number s.first small early; holds = h (number - d) };
+        placed = record { a = number - d; low = omega (arith, near); high = omega (arith, near, early); early = early; first = same ∙ ap (λ (n : ℕ). Some n) (start_is number first small early); holds = h (number - d) };
         low = omega (arith, near);
         high = omega (arith, near, early);
       }
-  enters_first ss number s false is early small h = begins ss number number s (h 0).settings early (omega arith) (omega arith)
+  enters_first ss number s first false same is early small h = begins ss number number s (h 0).settings early (omega arith) (omega arith)
 
   enters_next : (ss : FecSettings) (highest number : ℕ) (s : State) (b : Bool) → is_within s.first (number % 65536) ≡ b → number < highest + 16384 → highest < number + 16384 → Placed ss highest s
-      → Enters ss (max highest number) number (cond b s (record (emptied s) { first = (number % 65536 + 49152) % 65536 }))
+      → Enters ss (max highest number) number (cond b s (record (emptied s) { first = Some ((number % 65536 + 49152) % 65536) }))
   enters_next ss highest number s true is near near' h =
       let d : ℕ → ℕ = λ f. (number % 65536 + 65536 - f) % 65536 in
-      let close : d (h.a % 65536) < 32768 = ltb-true (d (h.a % 65536)) 32768 (ap (λ (f : ℕ). ltb (d f) 32768) (sym h.first) ∙ is) in
+      let close : d (h.a % 65536) < 32768 = ltb-true (d (h.a % 65536)) 32768 (ap (λ (f : Option ℕ). is_within f (number % 65536)) (sym h.first) ∙ is) in
       let within = within_is h.a number highest h.low h.high near near' close in
       record {
         placed = record { a = h.a; low = omega (arith, h.low, within); high = omega (arith, h.high, within); early = omega (arith, h.early); first = h.first; holds = h.holds };
@@ -355,7 +356,7 @@ module _ (sent : ℕ → Option (List ℕ)) where
     enters : Enters ss highest number s
 
   entered_is : (ss : FecSettings) (before : Option ℕ) (number : ℕ) (s : State) → IsNear before number → Stands ss before s → Entered ss (raised before number) number (entered (number % 65536) s)
-  entered_is ss None number s near h = record { highest = number; is = refl; enters = enters_first ss number s (is_within s.first (number % 65536)) refl near h.0 h.1 }
+  entered_is ss None number s near h = record { highest = number; is = refl; enters = enters_first ss number s s.first (is_within s.first (number % 65536)) refl refl near h.0 h.1 }
   entered_is ss (Some highest) number s near h =
       record { highest = max highest number; is = refl; enters = enters_next ss highest number s (is_within s.first (number % 65536)) refl near.0 near.1 h }
 
@@ -414,12 +415,12 @@ module _ (sent : ℕ → Option (List ℕ)) where
   -- ---- calls
 
   pub next_stands : (ss : FecSettings) (top : Option ℕ) (s : State) → IsSender ss.ssrc sent → Stands ss top s → Stands ss top (next_of s).state
-  next_stands ss None s is h = (let P : ℕ → Type 0 = λ n. n < 65536 in subst P (sym (first_kept s)) h.0, λ a. (next_holds ss a s is (h.1 a)).holds)
+  next_stands ss None s is h = (let P : Option ℕ → Type 0 = λ o. IfSome o (λ n. n < 65536) in subst P (sym (first_kept s)) h.0, λ a. (next_holds ss a s is (h.1 a)).holds)
   next_stands ss (Some highest) s is h =
       record { a = h.a; low = h.low; high = h.high; early = h.early; first = first_kept s ∙ h.first; holds = (next_holds ss h.a s is h.holds).holds }
 
   after_stands : (ss : FecSettings) (top : Option ℕ) (s : State) → Stands ss top s → Stands ss top (after_tries s)
-  after_stands ss None s h = (let P : ℕ → Type 0 = λ n. n < 65536 in subst P (sym (after_first s)) h.0, λ a. after_holds ss a s (h.1 a))
+  after_stands ss None s h = (let P : Option ℕ → Type 0 = λ o. IfSome o (λ n. n < 65536) in subst P (sym (after_first s)) h.0, λ a. after_holds ss a s (h.1 a))
   after_stands ss (Some highest) s h = record { a = h.a; low = h.low; high = h.high; early = h.early; first = after_first s ∙ h.first; holds = after_holds ss h.a s h.holds }
 
   packet_sent : (a : ℕ) (o : Option (List ℕ)) → IfSome o (IsHeld a) → WereSent sent (to_list o)

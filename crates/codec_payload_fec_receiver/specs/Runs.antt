@@ -100,7 +100,7 @@ WereSent sent (p ∷ ps) = ((n : ℕ) × (sent n ≡ Some p)) × WereSent sent p
 pub record HoldsNothing (s : State) : Type 0 where
   pub none_kept : (n : ℕ) → found_in s.store.slots n ≡ None
   pub no_fecs : s.fecs ≡ []
-  pub is_number : s.first < 65536
+  pub is_number : IfSome s.first (λ first. first < 65536)
 
 -- Whatever datagrams are lost, repeated or come in another order: each packet that is handed out was sent, byte for byte
 abbrev pub HandedOutWasSent : Type 0

@@ -24,31 +24,35 @@ pub record OpenFec : Type 0 where
 abbrev pub held_fec : LentFec → OpenFec
 held_fec o = record { bytes = o.bytes.items; is_due = o.is_due }
 
--- `first`: the first of the 32,768 numbers of the window. `store`: the packets that came in the window, and the rebuilt ones. `fecs`: the
+-- `first`: the first of the 32,768 numbers of the window, if one has begun. `store`: the packets that came in the window, and the rebuilt ones. `fecs`: the
 -- packets of FEC that came in the window, the oldest first. `is_fresh`: no packet was rebuilt since the latest datagram
 pub record State : Type 0 where
   pub settings : FecSettings
-  pub first : ℕ
+  pub first : Option ℕ
   pub store : Store
   pub fecs : List OpenFec
   pub is_fresh : Bool
 
 abbrev pub new_state : FecSettings → State
-new_state settings = record { settings = settings; first = 0; store = no_packets settings.bytes; fecs = []; is_fresh = false }
+new_state settings = record { settings = settings; first = None; store = no_packets settings.bytes; fecs = []; is_fresh = false }
 
 -- nothing is held
 abbrev pub emptied : State → State
 emptied s = record s { store = record s.store { slots = no_slots }; fecs = [] }
 
+abbrev pub forgotten : State → State
+forgotten s = record (emptied s) { first = None; is_fresh = false }
+
 -- ---- a datagram
 
 -- the number is one of the 32,768 from `first` on
-abbrev pub is_within : ℕ → ℕ → Bool
-is_within first number = nat_lt ((number + 65536 - first) % 65536) 32768
+abbrev pub is_within : Option ℕ → ℕ → Bool
+is_within None number = false
+is_within (Some first) number = nat_lt ((number + 65536 - first) % 65536) 32768
 
 -- A number beyond the window begins another one, in whose middle it is: nothing of the former one is held
 abbrev pub entered : ℕ → State → State
-entered number s = if is_within s.first number then s else record (emptied s) { first = (number + 49152) % 65536 }
+entered number s = if is_within s.first number then s else record (emptied s) { first = Some ((number + 49152) % 65536) }
 
 -- the number is one of those that a packet of FEC protects
 abbrev pub is_place : ℕ → ℕ → Bool

@@ -11,7 +11,7 @@ ghost use Rattle.codec_payload_fec.specs.Rebuilding.{found_in};
 ghost use Rattle.codec_payload_fec.specs.Stores.{no_slots};
 ghost use Rattle.codec_payload_fec.specs.Strings.{number_of};
 ghost use Rattle.codec_payload_fec_receiver.specs.Contents.{Media};
-ghost use Rattle.codec_payload_fec_receiver.specs.States.{after_tries, emptied, entered, fec_at_place, first_due, handed_at, is_place, is_within, kept_as, latest, marked, new_state, next_of, held_fec, protects, rebuilt_by, received, stale, took, took_fec, tried, verdict_on, with_fec, with_packet, without, waiting};
+ghost use Rattle.codec_payload_fec_receiver.specs.States.{after_tries, entered, fec_at_place, first_due, forgotten, handed_at, is_place, is_within, kept_as, latest, marked, new_state, next_of, held_fec, protects, rebuilt_by, received, stale, took, took_fec, tried, verdict_on, with_fec, with_packet, without, waiting};
 
 use crate::content::{Content, FecSettings, content_of};
 use crate::late::plain_bytes;
@@ -55,7 +55,7 @@ enum Verdict {
 pub struct FecReceiver {
     alloc: Global,
     settings: FecSettings,
-    first: u16,
+    first: Option<u16>,
     store: PacketStore,
     fecs: Vec<OpenFec>,
     is_fresh: bool,
@@ -70,11 +70,14 @@ impl Model for FecReceiver {
     ghost view = { λ s. record { settings = s.settings; first = s.first; store = s.store; fecs = map held_fec s.fecs.items; is_fresh = s.is_fresh } };
 }
 
-/// Returns whether a number is one of the 32,768 from `first` on.
-fn is_within(first: u16, number: u16) -> bool
+/// Returns whether a number is one of the 32,768 from `first` on. `None`: no window has begun.
+fn is_within(first: Option<u16>, number: u16) -> bool
     ensures { result ≡ is_within first number }
 {
-    (u32::from(number) + 65_536 - u32::from(first)) % 65_536 < 32_768
+    match first {
+        Some(first) => (u32::from(number) + 65_536 - u32::from(first)) % 65_536 < 32_768,
+        None => false,
+    }
 }
 
 /// Returns whether a packet of FEC protects the packet with this number.
@@ -188,7 +191,7 @@ impl FecReceiver {
         Ok(FecReceiver {
             alloc,
             settings,
-            first: 0,
+            first: None,
             store: PacketStore::new(alloc, settings.bytes)?,
             fecs: Vec::new(alloc),
             is_fresh: false,
@@ -197,10 +200,11 @@ impl FecReceiver {
 
     /// Drops all packets: another sender begins.
     pub fn restart(&mut self)
-        ensures { self.new ≡ stale (emptied self.old) }
+        ensures { self.new ≡ forgotten self.old }
     {
         self.store.clear();
         self.fecs.clear();
+        self.first = None;
         self.is_fresh = false;
     }
 
@@ -217,10 +221,10 @@ impl FecReceiver {
 
     /// Begins a window in whose middle a number is, without packets.
     fn begin_at(&mut self, number: u16)
-        ensures { self.new ≡ record self.old { first = (number + 49152) % 65536; store = record self.old.store { slots = no_slots } } }
+        ensures { self.new ≡ record self.old { first = Option.Some ((number + 49152) % 65536); store = record self.old.store { slots = no_slots } } }
     {
         self.store.clear();
-        self.first = number.wrapping_add(49_152);
+        self.first = Some(number.wrapping_add(49_152));
     }
 
     /// Keeps a packet with this number, and marks the packets of FEC that protect it.

@@ -43,15 +43,18 @@ enum Verdict {
 #[derive(Debug)]
 pub struct FecReceiver {
     settings: FecSettings,
-    first: u16,
+    first: Option<u16>,
     store: PacketStore,
     fecs: Vec<OpenFec>,
     is_fresh: bool,
 }
 
-/// Returns whether a number is one of the 32,768 from `first` on.
-fn is_within(first: u16, number: u16) -> bool {
-    (u32::from(number) + 65_536 - u32::from(first)) % 65_536 < 32_768
+/// Returns whether a number is one of the 32,768 from `first` on. `None`: no window has begun.
+fn is_within(first: Option<u16>, number: u16) -> bool {
+    match first {
+        Some(first) => (u32::from(number) + 65_536 - u32::from(first)) % 65_536 < 32_768,
+        None => false,
+    }
 }
 
 /// Returns whether a packet of FEC protects the packet with this number.
@@ -138,7 +141,7 @@ impl FecReceiver {
     pub fn new(settings: FecSettings) -> Result<FecReceiver, AllocError> {
         Ok(FecReceiver {
             settings,
-            first: 0,
+            first: None,
             store: PacketStore::new(settings.bytes)?,
             fecs: Vec::new(),
             is_fresh: false,
@@ -149,6 +152,7 @@ impl FecReceiver {
     pub fn restart(&mut self) {
         self.store.clear();
         self.fecs.clear();
+        self.first = None;
         self.is_fresh = false;
     }
 
@@ -164,7 +168,7 @@ impl FecReceiver {
     /// Begins a window in whose middle a number is, without packets.
     fn begin_at(&mut self, number: u16) {
         self.store.clear();
-        self.first = number.wrapping_add(49_152);
+        self.first = Some(number.wrapping_add(49_152));
     }
 
     /// Keeps a packet with this number, and marks the packets of FEC that protect it.

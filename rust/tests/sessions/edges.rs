@@ -154,7 +154,10 @@ fn lost_padding_beside_descriptors() {
         let receiver = session.receiver_of(7, VP8).ok_or("there is a stream")?;
         Ok(receiver.missing(100).map(|it| it % 65_536).collect())
     };
-    assert_eq!(missing(Some(DESCRIPTOR)).unwrap(), (15..20).collect::<Vec<_>>());
+    assert_eq!(
+        missing(Some(DESCRIPTOR)).unwrap(),
+        (15..20).collect::<Vec<_>>()
+    );
     let all: Vec<u64> = [12, 13].into_iter().chain(15..20).collect();
     assert_eq!(missing(None).unwrap(), all);
     assert_eq!(missing(Some(DESCRIPTOR + 1)).unwrap(), all);
@@ -177,7 +180,10 @@ fn a_retransmission_closes_a_range() -> Result<(), Fail> {
     let mut first = packet(VP8, 7, 11, 3_000, &picture(Some(2), false));
     first[1] &= 0x7f;
     session.receive(Ticks(0), &first)?;
-    session.receive(Ticks(0), &packet(VP8, 7, 15, 6_000, &picture(Some(3), false)))?;
+    session.receive(
+        Ticks(0),
+        &packet(VP8, 7, 15, 6_000, &picture(Some(3), false)),
+    )?;
     assert_eq!(missing(&session), [12, 13, 14]);
     let again = [&12u16.to_be_bytes()[..], &[0x80, 0x80, 0x80, 2, 9]].concat();
     session.receive(Ticks(1), &packet(RTX, 70, 900, 3_000, &again))?;
