@@ -276,8 +276,8 @@ lost_packets_come_back exact on_time samples all_steps sender history receiver s
     answers_fill_gaps exact on_time samples all_steps sender history receiver settings t run plain answers within in
     record {
       gaps = gaps;
-      in_turn = λ max_wait slack delay k waiting allows is. gaps.in_turn max_wait slack (delay + delay) k waiting allows
+      in_turn = λ max_wait slack delay k waiting keeps allows is. gaps.in_turn max_wait slack (delay + delay) k waiting keeps allows
           (serves_all gaps.run.times.promises.first slack delay k (first_size gaps.run.times.promises.released.units) samples all_steps s t all is);
-      in_time = λ max_wait slack delay k waiting allows is. gaps.in_time max_wait slack (delay + delay) k waiting allows
+      in_time = λ max_wait slack delay k waiting keeps allows is. gaps.in_time max_wait slack (delay + delay) k waiting keeps allows
           (serves_all gaps.run.times.promises.first slack delay k (first_size gaps.run.times.promises.released.units) samples all_steps s t all is);
     }

@@ -67,27 +67,30 @@ plain_heard samples sent (Asks now ∷ later) sends = plain_heard samples sent l
 plain_heard samples sent (Hears now number ∷ later) sends = plain_heard samples sent later sends
 
 -- the receiver and its schedule make these steps over copies of these datagrams, and this is requested
-abbrev pub Listens : Option RetransmissionStream → List AskedStep → List (List ℕ) → Session → Schedule → List Asked → Type 0
-Listens again [] datagrams s c asked = asked ≡ []
-Listens again (Does (steps.Send i) ∷ later) datagrams s c asked = Listens again later datagrams s c asked
-Listens again (Does (steps.Deliver k now) ∷ later) datagrams s c asked =
+abbrev pub Listens : Option RetransmissionStream → List AskedStep → List (List ℕ) → Session → Schedule → List Answer → List Asked → Type 0
+Listens again [] datagrams s c answers asked = (answers ≡ []) × (asked ≡ [])
+Listens again (Does (steps.Send i) ∷ later) datagrams s c answers asked = Listens again later datagrams s c answers asked
+Listens again (Does (steps.Deliver k now) ∷ later) datagrams s c answers asked =
     (datagram : List ℕ) × (slice_get datagrams k ≡ Some datagram) × (bytes : List ℕ) × IsCopy again datagram bytes
-    × (receipt : Receipt) × (mid : Session) × Delivers now bytes s receipt mid × Listens again later datagrams mid c asked
-Listens again (Does (steps.Pop now) ∷ later) datagrams s c asked =
-    (answer : Answer) × (mid : Session) × (answer ≢ Some (Err faults.OutOfMemory)) × PopsUnit now s answer mid × Listens again later datagrams mid c asked
-Listens again (Does steps.Finish ∷ later) datagrams s c asked = (mid : Session) × Ends s mid × Listens again later datagrams mid c asked
-Listens again (Asks now ∷ later) datagrams s c asked =
-    (more : List Asked) × (asked ≡ asked_by now s c ∷ more) × Listens again later datagrams s (after_due now (wanted_by now s c)) more
-Listens again (Hears now number ∷ later) datagrams s c asked = Listens again later datagrams s (after_answer now number c) asked
+    × (receipt : Receipt) × (mid : Session) × Delivers now bytes s receipt mid × Listens again later datagrams mid c answers asked
+Listens again (Does (steps.Pop now) ∷ later) datagrams s c answers asked =
+    (answer : Answer) × (mid : Session) × (answer ≢ Some (Err faults.OutOfMemory)) × PopsUnit now s answer mid
+    × (more : List Answer) × (answers ≡ answer ∷ more) × Listens again later datagrams mid c more asked
+Listens again (Does steps.Finish ∷ later) datagrams s c answers asked = (mid : Session) × Ends s mid × Listens again later datagrams mid c answers asked
+Listens again (Asks now ∷ later) datagrams s c answers asked =
+    (more : List Asked) × (asked ≡ asked_by now s c ∷ more) × Listens again later datagrams s (after_due now (wanted_by now s c)) answers more
+Listens again (Hears now number ∷ later) datagrams s c answers asked = Listens again later datagrams s (after_answer now number c) answers asked
 
 module _ (again : Option RetransmissionStream) (samples : List Sample) where
   pub record HearsTo (all_steps : List AskedStep) (s t : Asking) : Type 0 where
     pub later : List SentSample
     pub sends : t.wire.sends ≡ s.wire.sends ++ later
+    pub answers : List Answer
+    pub pops : t.wire.pops ≡ s.wire.pops ++ answers
     pub more : List Asked
     pub asked : t.asked ≡ s.asked ++ more
     pub grows : (k : ℕ) (bytes : List ℕ) → slice_get s.wire.datagrams k ≡ Some bytes → slice_get t.wire.datagrams k ≡ Some bytes
-    pub listens : Listens again (heard_steps samples (length s.wire.datagrams) all_steps later) t.wire.datagrams s.wire.session s.schedule more
+    pub listens : Listens again (heard_steps samples (length s.wire.datagrams) all_steps later) t.wire.datagrams s.wire.session s.schedule answers more
 
   abbrev Heard : ℕ → List AskedStep → List SentSample → List AskedStep
   Heard = heard_steps samples
@@ -101,10 +104,12 @@ module _ (again : Option RetransmissionStream) (samples : List Sample) where
       record {
         later = c.later;
         sends = c.sends;
+        answers = c.answers;
+        pops = c.pops;
         more = c.more;
         asked = c.asked;
         grows = c.grows;
-        listens = subst (λ (o : Option Sample). Listens again (Heard (sent_after (length s.wire.datagrams) o c.later) later (sends_after o c.later)) t.wire.datagrams s.wire.session s.schedule c.more) (sym is) c.listens;
+        listens = subst (λ (o : Option Sample). Listens again (Heard (sent_after (length s.wire.datagrams) o c.later) later (sends_after o c.later)) t.wire.datagrams s.wire.session s.schedule c.answers c.more) (sym is) c.listens;
       }
   send_hears (Some sample) i later s t wire is done hears =
       let entry : SentSample = done.0 in
@@ -114,13 +119,15 @@ module _ (again : Option RetransmissionStream) (samples : List Sample) where
       record {
         later = entry ∷ hears.later;
         sends = hears.sends ∙ (ap (λ (x : Wire). x.sends ++ hears.later) done.2 ∙ append_assoc s.wire.sends (entry ∷ []) hears.later);
+        answers = hears.answers;
+        pops = hears.pops ∙ ap (λ (x : Wire). x.pops ++ hears.answers) done.2;
         more = hears.more;
         asked = hears.asked;
         grows = λ k bytes there. hears.grows k bytes (subst (λ (ds : List (List ℕ)). slice_get ds k ≡ Some bytes) (sym all) (get_append s.wire.datagrams wire.sending.datagrams k bytes there));
         listens = subst (λ (o : Option Sample). Listens again (Heard (sent_after (length s.wire.datagrams) o (entry ∷ hears.later)) later (sends_after o (entry ∷ hears.later)))
-            t.wire.datagrams s.wire.session s.schedule hears.more) (sym is)
-            (subst (λ (n : ℕ). Listens again (Heard n later hears.later) t.wire.datagrams s.wire.session s.schedule hears.more) count
-            (subst (λ (x : Session). Listens again (Heard (length wire.datagrams) later hears.later) t.wire.datagrams x s.schedule hears.more) session hears.listens));
+            t.wire.datagrams s.wire.session s.schedule hears.answers hears.more) (sym is)
+            (subst (λ (n : ℕ). Listens again (Heard n later hears.later) t.wire.datagrams s.wire.session s.schedule hears.answers hears.more) count
+            (subst (λ (x : Session). Listens again (Heard (length wire.datagrams) later hears.later) t.wire.datagrams x s.schedule hears.answers hears.more) session hears.listens));
       }
 
   deliver_hears : (o : Option (List ℕ)) (k : ℕ) (now : Ticks) (later : List AskedStep) (s t : Asking) (wire : Wire) → slice_get s.wire.datagrams k ≡ o
@@ -131,6 +138,8 @@ module _ (again : Option RetransmissionStream) (samples : List Sample) where
       record {
         later = c.later;
         sends = c.sends;
+        answers = c.answers;
+        pops = c.pops;
         more = c.more;
         asked = c.asked;
         grows = c.grows;
@@ -142,12 +151,14 @@ module _ (again : Option RetransmissionStream) (samples : List Sample) where
       let same : wire.datagrams ≡ s.wire.datagrams = ap (λ (x : Wire). x.datagrams) done.5 in
       let grows : (j : ℕ) (b : List ℕ) → slice_get s.wire.datagrams j ≡ Some b → slice_get t.wire.datagrams j ≡ Some b =
       λ j b there. hears.grows j b (subst (λ (ds : List (List ℕ)). slice_get ds j ≡ Some b) (sym same) there) in
-      let rest : Listens again (Heard (length s.wire.datagrams) later hears.later) t.wire.datagrams done.3 s.schedule hears.more =
-      subst (λ (ds : List (List ℕ)). Listens again (Heard (length ds) later hears.later) t.wire.datagrams done.3 s.schedule hears.more) same
-      (subst (λ (x : Session). Listens again (Heard (length wire.datagrams) later hears.later) t.wire.datagrams x s.schedule hears.more) session hears.listens) in
+      let rest : Listens again (Heard (length s.wire.datagrams) later hears.later) t.wire.datagrams done.3 s.schedule hears.answers hears.more =
+      subst (λ (ds : List (List ℕ)). Listens again (Heard (length ds) later hears.later) t.wire.datagrams done.3 s.schedule hears.answers hears.more) same
+      (subst (λ (x : Session). Listens again (Heard (length wire.datagrams) later hears.later) t.wire.datagrams x s.schedule hears.answers hears.more) session hears.listens) in
       record {
         later = hears.later;
         sends = hears.sends ∙ ap (λ (x : Wire). x.sends ++ hears.later) done.5;
+        answers = hears.answers;
+        pops = hears.pops ∙ ap (λ (x : Wire). x.pops ++ hears.answers) done.5;
         more = hears.more;
         asked = hears.asked;
         grows = grows;
@@ -158,10 +169,12 @@ module _ (again : Option RetransmissionStream) (samples : List Sample) where
   hears_to [] s t run = record {
     later = [];
     sends = ap (λ (x : Asking). x.wire.sends) run ∙ sym (append-nil s.wire.sends);
+    answers = [];
+    pops = ap (λ (x : Asking). x.wire.pops) run ∙ sym (append-nil s.wire.pops);
     more = [];
     asked = ap (λ (x : Asking). x.asked) run ∙ sym (append-nil s.asked);
     grows = λ k bytes there. subst (λ (x : Asking). slice_get x.wire.datagrams k ≡ Some bytes) (sym run) there;
-    listens = refl;
+    listens = (refl, refl);
   }
   hears_to (Does (steps.Send i) ∷ later) s t run =
       send_hears (slice_get samples i) i later s t run.1.0 refl run.1.1 (subst (λ (x : Asking). HearsTo later x t) run.1.2 (hears_to later run.0 t run.2))
@@ -177,6 +190,8 @@ module _ (again : Option RetransmissionStream) (samples : List Sample) where
       record {
         later = hears.later;
         sends = hears.sends ∙ ap (λ (x : Wire). x.sends ++ hears.later) does;
+        answers = pop.0 ∷ hears.answers;
+        pops = hears.pops ∙ (ap (λ (x : Wire). x.pops ++ hears.answers) does ∙ append_assoc s.wire.pops (pop.0 ∷ []) hears.answers);
         more = hears.more;
         asked = hears.asked;
         grows = λ j b there. hears.grows j b (subst (λ (ds : List (List ℕ)). slice_get ds j ≡ Some b) (sym same) there);
@@ -185,8 +200,10 @@ module _ (again : Option RetransmissionStream) (samples : List Sample) where
           pop.1,
           pop.2,
           pop.3,
-          subst (λ (ds : List (List ℕ)). Listens again (Heard (length ds) later hears.later) t.wire.datagrams pop.1 s.schedule hears.more) same
-              (subst (λ (x : Session). Listens again (Heard (length wire.datagrams) later hears.later) t.wire.datagrams x s.schedule hears.more) session hears.listens),
+          hears.answers,
+          refl,
+          subst (λ (ds : List (List ℕ)). Listens again (Heard (length ds) later hears.later) t.wire.datagrams pop.1 s.schedule hears.answers hears.more) same
+              (subst (λ (x : Session). Listens again (Heard (length wire.datagrams) later hears.later) t.wire.datagrams x s.schedule hears.answers hears.more) session hears.listens),
         );
       }
   hears_to (Does steps.Finish ∷ later) s t run =
@@ -198,14 +215,16 @@ module _ (again : Option RetransmissionStream) (samples : List Sample) where
       record {
         later = hears.later;
         sends = hears.sends ∙ ap (λ (x : Wire). x.sends ++ hears.later) ends.2;
+        answers = hears.answers;
+        pops = hears.pops ∙ ap (λ (x : Wire). x.pops ++ hears.answers) ends.2;
         more = hears.more;
         asked = hears.asked;
         grows = λ j b there. hears.grows j b (subst (λ (ds : List (List ℕ)). slice_get ds j ≡ Some b) (sym same) there);
         listens = (
           ends.0,
           ends.1,
-          subst (λ (ds : List (List ℕ)). Listens again (Heard (length ds) later hears.later) t.wire.datagrams ends.0 s.schedule hears.more) same
-              (subst (λ (x : Session). Listens again (Heard (length wire.datagrams) later hears.later) t.wire.datagrams x s.schedule hears.more) session hears.listens),
+          subst (λ (ds : List (List ℕ)). Listens again (Heard (length ds) later hears.later) t.wire.datagrams ends.0 s.schedule hears.answers hears.more) same
+              (subst (λ (x : Session). Listens again (Heard (length wire.datagrams) later hears.later) t.wire.datagrams x s.schedule hears.answers hears.more) session hears.listens),
         );
       }
   hears_to (Asks now ∷ later) s t run =
@@ -214,6 +233,8 @@ module _ (again : Option RetransmissionStream) (samples : List Sample) where
       record {
         later = hears.later;
         sends = hears.sends;
+        answers = hears.answers;
+        pops = hears.pops;
         more = asked_by now s.wire.session s.schedule ∷ hears.more;
         asked = hears.asked ∙ append_assoc s.asked (asked_by now s.wire.session s.schedule ∷ []) hears.more;
         grows = hears.grows;
@@ -225,6 +246,8 @@ module _ (again : Option RetransmissionStream) (samples : List Sample) where
       record {
         later = hears.later;
         sends = hears.sends;
+        answers = hears.answers;
+        pops = hears.pops;
         more = hears.more;
         asked = hears.asked;
         grows = hears.grows;

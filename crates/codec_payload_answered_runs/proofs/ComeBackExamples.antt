@@ -1,16 +1,18 @@
 -- The premises of `lost_packets_come_back` can be met.
 use Rattle.std.specs.Global.{Vec}
-use Rattle.std.proofs.Common.{◌≡◌, refl, sym, subst, ℕ, zero, suc, ◌+◌, inl, inr, Bool, true, false, List, [], ◌∷◌, None, arith, lit<, lit≤}
+use Rattle.std.proofs.Common.{◌≡◌, refl, sym, subst, ℕ, zero, suc, ◌+◌, inl, inr, Bool, true, false, List, [], ◌∷◌, None, arith, length, lit<, lit≤}
 use Rattle.std.proofs.lemmas.Bool.Decides.{nat_tests}
 use Rattle.codec_payload_codec.specs.Depacketizers.{OpusDepacketizing}
 use Rattle.codec_payload_feedback_requests.specs.NackRuns.{is_in}
 use Rattle.codec_payload_datagram_runs.specs.HistoryRunExample.{resent_receiver, resent_settings}
-use Rattle.codec_payload_datagram_runs.specs.Releases.{IsWithinWindows}
+use Rattle.codec_payload_datagram_runs.specs.Releases.{IsWithinWindows, received_steps}
 use Rattle.codec_payload_datagram_runs.specs.WireRunExample.{frames_sent, one_each, opus_sender}
 use Rattle.codec_payload_answered_runs.specs.AnsweredRuns.{OneGetsThrough, heard_by}
 use Rattle.codec_payload_answered_runs.specs.AskedRuns.{AsksInTime, FirstComesFirst, IfAsked, TimesRise}
 use Rattle.codec_payload_answered_runs.specs.ComeBackExample.{AnswersCanBeMet, asked_then, come_back_steps, one_written, patient_history, plain_then}
-use Rattle.codec_payload_answered_runs.specs.FilledGaps.{Came, StartsWhole, has_come}
+use Rattle.codec_payload_answered_runs.specs.FilledGaps.{Came, KeepsUp, StartsWhole, has_come}
+use Rattle.codec_payload_buffer_runs.specs.Schedule.{Answer}
+use Rattle.codec_payload_buffer_runs.specs.SentStream.{SentUnit}
 
 is_within : (no_media : Vec ℕ) → IsWithinWindows frames_sent plain_then opus_sender (resent_receiver no_media) one_each
 is_within no_media = record {
@@ -95,13 +97,25 @@ gets_through zero = tt
 gets_through (suc zero) = inr (inl (refl, lit< tt, lit≤ tt, lit≤ tt, inl (refl, lit≤ tt)))
 gets_through (suc (suc j)) = if_not _ _ (is_in (131071 + suc (suc j)) (131072 ∷ [])) (not_named j) (if_not _ _ (is_in (131071 + suc (suc j)) (131072 ∷ [])) (not_named j) tt)
 
+-- each index is below 3,584
+keeps : (units : List SentUnit) (answers : List Answer) → length answers ≡ 6 → KeepsUp 512 4096 units 0 (received_steps frames_sent 0 plain_then one_each) answers
+keeps units [] count = absurd (omega (arith, count))
+keeps units (a ∷ []) count = absurd (omega (arith, count))
+keeps units (a ∷ b ∷ []) count = absurd (omega (arith, count))
+keeps units (a ∷ b ∷ d ∷ []) count = absurd (omega (arith, count))
+keeps units (a ∷ b ∷ d ∷ e ∷ []) count = absurd (omega (arith, count))
+keeps units (a ∷ b ∷ d ∷ e ∷ f ∷ []) count = absurd (omega (arith, count))
+keeps units (a ∷ b ∷ d ∷ e ∷ f ∷ g ∷ []) count = (omega arith, (omega arith, (omega arith, tt)))
+keeps units (a ∷ b ∷ d ∷ e ∷ f ∷ g ∷ h ∷ more) count = absurd (omega (arith, count))
+
 pub answers_can_be_met : AnswersCanBeMet
 answers_can_be_met = record {
   answers = λ no_media. record { settings = patient_history; new = refl; heard = (refl, inr (lit< tt)) };
   any_time = refl;
   no_ids = refl;
   within = is_within;
-  waits = λ no_media. record { some = lit< tt; limit = refl; by_time = refl; room = lit≤ tt };
+  waits = λ no_media. record { some = lit< tt; limit = refl; by_time = refl };
+  keeps_up = keeps;
   allows = record { tries = lit< tt; small = lit< tt; capacity = lit≤ tt; soon = lit< tt; short = lit< tt };
   kind = record { times = times_rise; asks = in_time; begins = refl; first_unit = first_first; gets_through = gets_through };
   are_delivered = refl;

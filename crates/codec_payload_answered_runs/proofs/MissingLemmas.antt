@@ -161,27 +161,27 @@ rising_in test n low (suc count) last below le less is =
 
 -- a number that is absent above the floor and below the highest one is followed
 pub misses : (settings : NackSettings) (r : Receiving) (n l g : ℕ) → r.lowest ≡ Some l → r.numbering.greatest ≡ Some g → l < n → is_at_most r.buffer.cutoff n ≡ false → n < g
-    → is_absent r n ≡ true → g ≤ settings.capacity + l → is_in n (followed settings (missing_numbers r settings.capacity)) ≡ true
+    → is_absent r n ≡ true → ((m : ℕ) → floor_by (Some l) r.buffer.cutoff ≡ Some m → g ≤ settings.capacity + m + 1) → is_in n (followed settings (missing_numbers r settings.capacity)) ≡ true
 misses settings r n l g lowest greatest over above under absent room =
-    subst (λ (ns : List ℕ). is_in n (followed settings (take settings.capacity ns)) ≡ true) (sym missing_is) (by_cutoff r.buffer.cutoff above)
+    subst (λ (ns : List ℕ). is_in n (followed settings (take settings.capacity ns)) ≡ true) (sym missing_is) (by_cutoff r.buffer.cutoff above room)
   where
     missing_is : missing_of r ≡ missing_by r (floor_by (Some l) r.buffer.cutoff) (Some g)
     missing_is =
         ap (λ (o : Option ℕ). missing_by r (floor_by o r.buffer.cutoff) r.numbering.greatest) lowest ∙ ap (λ (o : Option ℕ). missing_by r (floor_by (Some l) r.buffer.cutoff) o) greatest
 
-    by_floor : (m : ℕ) → l ≤ m → m < n → is_in n (followed settings (take settings.capacity (absent_between r (m + 1) g))) ≡ true
-    by_floor m low below =
+    by_floor : (m : ℕ) → l ≤ m → m < n → g ≤ settings.capacity + m + 1 → is_in n (followed settings (take settings.capacity (absent_between r (m + 1) g))) ≡ true
+    by_floor m low below wide =
         let all : List ℕ = absent_between r (m + 1) g in
         let few = few_absent (is_absent r) (m + 1) (g - (m + 1)) in
-        let whole : take settings.capacity all ≡ all = take_all settings.capacity all (omega (arith, few, room, low)) in
+        let whole : take settings.capacity all ≡ all = take_all settings.capacity all (omega (arith, few, wide)) in
         let short = few_rising None all in
-        let rest : take settings.capacity (rising_after None all) ≡ rising_after None all = take_all settings.capacity (rising_after None all) (omega (arith, short, few, room, low)) in
+        let rest : take settings.capacity (rising_after None all) ≡ rising_after None all = take_all settings.capacity (rising_after None all) (omega (arith, short, few, wide)) in
         subst (λ (ns : List ℕ). is_in n (take settings.capacity (rising_after None ns)) ≡ true) (sym whole)
         (subst (λ (ns : List ℕ). is_in n ns ≡ true) (sym rest) (rising_in (is_absent r) n (m + 1) (g - (m + 1)) None tt (omega (arith, below)) (omega (arith, below, under)) absent))
 
-    by_cutoff : (o : Option ℕ) → is_at_most o n ≡ false → is_in n (followed settings (take settings.capacity (missing_by r (floor_by (Some l) o) (Some g)))) ≡ true
-    by_cutoff None e = by_floor l (omega arith) over
-    by_cutoff (Some c) e = let cut = leb-false n c e in by_floor (max l c) (omega arith) (omega (arith, over, cut))
+    by_cutoff : (o : Option ℕ) → is_at_most o n ≡ false → ((m : ℕ) → floor_by (Some l) o ≡ Some m → g ≤ settings.capacity + m + 1) → is_in n (followed settings (take settings.capacity (missing_by r (floor_by (Some l) o) (Some g)))) ≡ true
+    by_cutoff None e wide = by_floor l (omega arith) over (wide l refl)
+    by_cutoff (Some c) e wide = let cut = leb-false n c e in by_floor (max l c) (omega arith) (omega (arith, over, cut)) (wide (max l c) refl)
 
 -- no other is: not one at or above the highest number
 in_taken : (n k : ℕ) (ns : List ℕ) → is_in n (take k ns) ≡ true → is_in n ns ≡ true

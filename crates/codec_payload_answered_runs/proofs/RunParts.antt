@@ -1,7 +1,8 @@
 -- What a run over datagrams in which each gap is filled pops. What stands in front of `at_pops` repeats ReleaseLemmas of
 -- codec_payload_datagram_runs, whose names for these facts are private.
-use Rattle.std.proofs.Common.{◌≡◌, ◌∙◌, refl, sym, ap, subst, ℕ, ◌+◌, ◌-◌, ◌%◌, ◌^◌, ◌<◌, List, [], ◌∷◌, inl, inr, false, Bool, Option, None, length, arith}
+use Rattle.std.proofs.Common.{◌≡◌, ◌∙◌, refl, sym, ap, subst, ℕ, ◌+◌, ◌-◌, ◌%◌, ◌^◌, ◌<◌, ◌&&◌, List, [], ◌∷◌, inl, inr, false, Bool, Option, None, length, leb, map, arith}
 use Rattle.std.specs.Prelude.{Contains}
+use Rattle.std.proofs.lemmas.Bool.{and_parts, leb-true}
 use Rattle.std.proofs.lemmas.Option.{slice_get_within}
 use Rattle.codec_payload_buffer.proofs.MemberLemmas.{contains_in, in_contains}
 use Rattle.codec_payload_codec.specs.Depacketizers.{DepacketizerKind, is_built_in_depacketizer, is_codec, tail_in}
@@ -14,7 +15,7 @@ use Rattle.codec_payload_buffer_runs.proofs.units.BuiltInRuns.{plainly, unused_e
 use Rattle.codec_payload_buffer_runs.proofs.order.RunSettings.{empty, fresh, may_go, nothing, ready, setting, tracked}
 use Rattle.codec_payload_buffer_runs.proofs.order.SafetyLemmas.{SendsAll, all_end, sends_all}
 use Rattle.codec_payload_buffer_runs.proofs.units.StreamLemmas.{Streams, streams}
-use Rattle.codec_payload_buffer_runs.proofs.order.TurnLemmas.{IsReady, Setting, count}
+use Rattle.codec_payload_buffer_runs.proofs.order.TurnLemmas.{IsReady, Setting}
 use Rattle.codec_payload_buffer_runs.proofs.units.UnitRows.{IsFaithful}
 use Rattle.codec_payload_buffer_runs.specs.Arrivals.{AllArriveFirst, Event, Meets}
 use Rattle.codec_payload_buffer_runs.specs.Exact.{AnswersAll}
@@ -41,7 +42,8 @@ use Rattle.codec_payload_datagram_runs.proofs.TimelyLemmas.{StayTimely, stay_tim
 use Rattle.codec_payload_datagram_runs.proofs.EventLemmas.{Brings, HasLog, IsMet, IsRead, delivery_of, met, split_at_end, times_from}
 use Rattle.codec_payload_datagram_runs.proofs.GapLemmas.{only_past_gap}
 use Rattle.codec_payload_datagram_runs.proofs.LogLemmas.{Chained, all_follow, all_in_time, chained, log_known, none_is_lost, none_passed, stretches}
-use Rattle.codec_payload_datagram_runs.proofs.NewReceivers.{IsBegun, new_is_begun}
+use Rattle.codec_payload_datagram_runs.proofs.NewReceivers.{IsBegun, new_is_begun, passed}
+use Rattle.codec_payload_receiver.specs.declared.receiver.SettingsError.TheVariants as refusals
 use Rattle.codec_payload_datagram_runs.proofs.ReceivingLemmas.{AllNumbered, IsListening}
 use Rattle.codec_payload_datagram_runs.proofs.SendingLemmas.{SendsRun, running, same_count, sends_run}
 use Rattle.codec_payload_datagram_runs.proofs.HeldLemmas.{AllHeld}
@@ -73,9 +75,9 @@ use Rattle.codec_payload_datagram_runs.specs.declared.run.SentSample.{SentSample
 use Rattle.codec_payload_answered_runs.proofs.AskedCourses.{AskedCourse, HearsTo, Listens, asked_course, hears_to, plain_course, plain_heard}
 use Rattle.codec_payload_answered_runs.proofs.ServedGaps.{unseen, walk}
 use Rattle.codec_payload_answered_runs.specs.AskedRuns.{AllowsTries, Asked, AskedStep, Asking, FillsGaps, RequestsFillGaps, ServesRequests, begins_asking, heard_steps, plain_of}
-use Rattle.codec_payload_answered_runs.proofs.WholeRuns.{comes_by, in_turn, none_evicted}
+use Rattle.codec_payload_answered_runs.proofs.WholeRuns.{comes_begun, comes_by, in_turn, none_evicted}
 use Rattle.codec_payload_answered_runs.proofs.WholeTurns.{IsOf, Stands, StandsAt}
-use Rattle.codec_payload_answered_runs.specs.FilledGaps.{FilledGapsLoseNone, FilledGapsLoseNoneWithHistory, GapsAreFilled, IsPoppedBy, LosesNone, WaitsByTime, first_size}
+use Rattle.codec_payload_answered_runs.specs.FilledGaps.{FilledGapsLoseNone, FilledGapsLoseNoneWithHistory, GapsAreFilled, IsPoppedBy, KeepsUp, LosesNone, WaitsByTime, first_size}
 
 -- no pop skips the unit
 none_skipped_by : (first : ℕ) (units : List SentUnit) (place by : ℕ) (times : List ℕ) (turns : List Turn) → NonePassedOver turns
@@ -319,11 +321,17 @@ module _ (again : Option RetransmissionStream) (samples : List Sample) (all_step
   same_sent : length t.datagrams ≡ length (packets_of units)
   same_sent = sym (ap length (sym whole.whole) ∙ same_count sender.stream sent.all t.datagrams sent.reads)
 
-  few_sent : length (packets_of units) < 2 ^ 63
-  few_sent = omega (arith, few, same_sent)
+  few_sent : receiver.packets.buffer.limit < 2 ^ 63
+  few_sent =
+      let a = passed (leb within.settings.payload_type 127) _ refusals.PayloadType receiver within.new in
+      let b = passed (leb 1 within.settings.limit && leb within.settings.limit 65536) _ refusals.Limit receiver a.1 in
+      let range = and_parts (leb 1 within.settings.limit) (leb within.settings.limit 65536) b.0 in
+      let most = leb-true within.settings.limit 65536 range.1 in
+      let same = ap (λ (x : Session). x.packets.buffer.limit) begun.is in
+      omega (arith, most, same)
 
   -- nothing was popped, and nothing came
-  stands_first : (plain : IsPlain here) (max_wait : ℕ) (settings : WaitsByTime max_wait (count here) receiver.packets)
+  stands_first : (plain : IsPlain here) (max_wait : ℕ) (settings : WaitsByTime max_wait receiver.packets)
       → Stands here receiver.packets max_wait plain settings few_sent 0 [] receiver.packets.buffer
   stands_first plain max_wait settings =
       let empty_is : receiver.packets.buffer.held ≡ [] = ap (λ (x : Session). x.packets.buffer.held) begun.is in
@@ -332,7 +340,7 @@ module _ (again : Option RetransmissionStream) (samples : List Sample) (all_step
         held_in = subst (AllHeld (IsOf here receiver.packets max_wait plain settings few_sent [])) (sym empty_is) tt;
         in_held = λ k has. absurd (cc);
         cut = subst (StandsAt here receiver.packets max_wait plain settings few_sent 0 []) (sym (ap (λ (x : Session). x.packets.buffer.cutoff) begun.is)) refl;
-        few = omega (arith, ap length empty_is);
+        near = λ k has. absurd (cc);
         limit = refl;
       }
 
@@ -342,53 +350,58 @@ module _ (again : Option RetransmissionStream) (samples : List Sample) (all_step
   log_on : (l : WireLog samples all_steps (begins sender receiver) t units) → IsLogOf here.known (packets_of here.units) receiver.packets false received (runs.begun receiver.packets.buffer) l.turns l.end
   log_on l = subst (λ (b : Bool). IsLogOf here.known (packets_of here.units) receiver.packets b received (runs.begun receiver.packets.buffer) l.turns l.end) not_ended l.is_log
 
-  settings_of : (max_wait : ℕ) → WaitsByTime max_wait (length t.datagrams) receiver.packets → WaitsByTime max_wait (count here) receiver.packets
-  settings_of max_wait settings = subst (λ (n : ℕ). WaitsByTime max_wait n receiver.packets) same_sent settings
+  -- it keeps up
+  abbrev Keeps : Type 0
+  Keeps = KeepsUp receiver.packets.room receiver.packets.buffer.limit units 0 received t.pops
 
-  all_in_turn : (plain : IsPlain here) (max_wait : ℕ) → WaitsByTime max_wait (length t.datagrams) receiver.packets → GapsAreFilled max_wait (first_size units) [] received → AreNext Known splits units 0 t.pops
-  all_in_turn plain max_wait settings filled =
+  keeps_log : (l : WireLog samples all_steps (begins sender receiver) t units) → Keeps
+      → KeepsUp receiver.packets.room receiver.packets.buffer.limit units 0 received (map (λ (turn : Turn). turn.answer) l.turns)
+  keeps_log l keeps = subst (KeepsUp receiver.packets.room receiver.packets.buffer.limit units 0 received) (sym l.answers) keeps
+
+  all_in_turn : (plain : IsPlain here) (max_wait : ℕ) → WaitsByTime max_wait receiver.packets → Keeps → GapsAreFilled max_wait (first_size units) [] received → AreNext Known splits units 0 t.pops
+  all_in_turn plain max_wait settings keeps filled =
       let l : WireLog samples all_steps (begins sender receiver) t units = keeps_all.logged in
       subst (AreNext Known splits units 0) l.answers
-      (in_turn here receiver.packets max_wait plain (settings_of max_wait settings) few_sent 0 [] received (runs.begun receiver.packets.buffer) l.turns l.end
-      (stands_first plain max_wait (settings_of max_wait settings)) (log_on l) filled)
+      (in_turn here receiver.packets max_wait plain settings few_sent 0 [] received (runs.begun receiver.packets.buffer) l.turns l.end
+      (stands_first plain max_wait settings) (log_on l) filled (keeps_log l keeps))
 
   -- a unit that leaves is popped: none is skipped, and none evicted
-  popped : (plain : IsPlain here) (max_wait : ℕ) → WaitsByTime max_wait (length t.datagrams) receiver.packets → GapsAreFilled max_wait (first_size units) [] received → (l : WireLog samples all_steps (begins sender receiver) t units)
+  unit_popped : (plain : IsPlain here) (max_wait : ℕ) → WaitsByTime max_wait receiver.packets → Keeps → GapsAreFilled max_wait (first_size units) [] received → (l : WireLog samples all_steps (begins sender receiver) t units)
       → (place by : ℕ) → LeavesBy Known first splits units place by (pop_times received) l.turns l.end → IsPoppedBy Known first splits units place by (pop_times received) l.turns l.end
-  popped plain max_wait settings filled l place by (released is) = inl is
-  popped plain max_wait settings filled l place by (skipped_over is) =
+  unit_popped plain max_wait settings keeps filled l place by (released is) = inl is
+  unit_popped plain max_wait settings keeps filled l place by (skipped_over is) =
       absurd (none_skipped_by first units place by (pop_times received) l.turns (none_passed here 0 receiver.packets.buffer l.turns l.end plain readies (chain l)) is)
-  popped plain max_wait settings filled l place by (evicted is) =
-      absurd (none_evicted here receiver.packets max_wait plain (settings_of max_wait settings) few_sent is.0 0 [] received (runs.begun receiver.packets.buffer) l.turns l.end
-      (stands_first plain max_wait (settings_of max_wait settings)) refl (log_on l) filled is.2)
-  popped plain max_wait settings filled l place by (held whole all) = inr (whole, all)
+  unit_popped plain max_wait settings keeps filled l place by (evicted is) =
+      absurd (none_evicted here receiver.packets max_wait plain settings few_sent is.0 0 [] received (runs.begun receiver.packets.buffer) l.turns l.end
+      (stands_first plain max_wait settings) (comes_begun here receiver.packets max_wait plain settings few_sent 0 [] receiver.packets.buffer (stands_first plain max_wait settings))
+      (log_on l) filled (keeps_log l keeps) is.2)
+  unit_popped plain max_wait settings keeps filled l place by (held whole all) = inr (whole, all)
 
   abbrev loses_none : next_id sender.packetizer ≡ None → LosesNone samples all_steps (begins sender receiver) t
   loses_none plain = record {
     times = keeps_times;
     in_turn = all_in_turn (plain_here plain);
-    in_time = λ max_wait settings filled l pops place by u at comes delivered.
-        popped (plain_here plain) max_wait settings filled l place by
+    in_time = λ max_wait settings keeps filled l pops place by u at comes delivered.
+        unit_popped (plain_here plain) max_wait settings keeps filled l place by
         (keeps_times.after_deliveries max_wait settings.limit l pops place by u at
-        (comes_by here receiver.packets max_wait (plain_here plain) (settings_of max_wait settings) few_sent place by 0 (From 0 None) [] [] received (runs.begun receiver.packets.buffer) l.turns l.end
-        (stands_first (plain_here plain) max_wait (settings_of max_wait settings)) (log_on l) filled pops (λ j has. absurd (cc)) comes) delivered);
+        (comes_by here receiver.packets max_wait (plain_here plain) settings few_sent place by 0 (From 0 None) [] [] received (runs.begun receiver.packets.buffer) l.turns l.end
+        (stands_first (plain_here plain) max_wait settings) (log_on l) filled (keeps_log l keeps) pops (λ j has. absurd (cc)) comes) delivered);
   }
 
   -- Requests
 
   -- the gaps that the requests of the receiver fill
   fills_gaps : (plain : next_id sender.packetizer ≡ None) (exact : Exact) (on_time : OnTime) (settings : NackSettings) (heard : List AskedStep) (asked : List Asked) → plain_of heard ≡ received
-      → Listens again heard t.datagrams receiver (new_schedule settings) asked → (max_wait slack within_time k : ℕ) → WaitsByTime max_wait (length t.datagrams) receiver.packets
-      → AllowsTries settings max_wait slack within_time k (length t.datagrams) → ServesRequests first slack within_time k (first_size units) heard asked
+      → Listens again heard t.datagrams receiver (new_schedule settings) t.pops asked → (max_wait slack within_time k : ℕ) → WaitsByTime max_wait receiver.packets → Keeps
+      → AllowsTries settings max_wait slack within_time k receiver.packets.buffer.limit → ServesRequests first slack within_time k (first_size units) heard asked
       → GapsAreFilled max_wait (first_size units) [] received
-  fills_gaps plain exact on_time settings heard asked same listens max_wait slack within_time k waiting allows serves =
-      let allowed : AllowsTries settings max_wait slack within_time k (count here) = subst (λ (n : ℕ). AllowsTries settings max_wait slack within_time k n) same_sent allows in
+  fills_gaps plain exact on_time settings heard asked same listens max_wait slack within_time k waiting keeps allows serves =
       let ks : delivered (plain_of heard) ≡ delivered received = ap delivered same in
       subst (GapsAreFilled max_wait (first_size units) []) same
-      (walk exact on_time settings here receiver.packets max_wait slack within_time k (plain_here plain) (settings_of max_wait waiting) few_sent allowed again sender.stream within.one_stream.not_rtcp
+      (walk exact on_time settings here receiver.packets max_wait slack within_time k (plain_here plain) waiting few_sent allows again sender.stream within.one_stream.not_rtcp
       t.datagrams (subst (λ (ps : List Packet). AreDatagrams sender.stream ps t.datagrams) whole.whole sent.reads) receiver.stream.ids (times_from first sent.all) received
       (λ n q meta is tells values. (contains_in (steps.Deliver n meta.received) received is, tells, values))
-      heard asked 0 None 0 [] [] receiver listens serves.times serves.asks serves.first_unit (λ step is. subst (λ (xs : List DatagramStep). IsIn step xs) same is)
+      heard t.pops asked 0 None 0 [] [] receiver listens (subst (λ (xs : List DatagramStep). KeepsUp receiver.packets.room receiver.packets.buffer.limit units 0 xs t.pops) (sym same) keeps) serves.times serves.asks serves.first_unit (λ step is. subst (λ (xs : List DatagramStep). IsIn step xs) same is)
       (record {
         listening = listening;
         same_ids = refl;
@@ -398,7 +411,7 @@ module _ (again : Option RetransmissionStream) (samples : List Sample) (all_step
         timed = subst (λ (ps : List Packet). AllTimed (times_from first sent.all) first ps (delivered (plain_of heard))) whole.whole (all_timed first sent.all (delivered (plain_of heard)));
         timely = subst (λ (ps : List Packet). StayTimely rate first ps receiver.packets.first (delivered (plain_of heard))) whole.whole (subst (StayTimely rate first sent.all receiver.packets.first) (sym ks) timely);
         times = nothing_noted;
-        stands = stands_first (plain_here plain) max_wait (settings_of max_wait waiting);
+        stands = stands_first (plain_here plain) max_wait waiting;
         low = ap (λ (x : Session). x.packets.lowest) begun.is;
         high = ap (λ (x : Session). x.packets.numbering.greatest) begun.is;
         begins = λ e. serves.begins;
@@ -457,29 +470,32 @@ module _ (exact : Exact) (on_time : OnTime) (again : Option RetransmissionStream
   hearing : HearsTo again samples all_steps (begins_asking sender receiver settings) t
   hearing = hears_to again samples all_steps (begins_asking sender receiver settings) t run
 
-  listens : Listens again (heard_steps samples 0 all_steps t.wire.sends) t.wire.datagrams receiver (new_schedule settings) t.asked
+  listens : Listens again (heard_steps samples 0 all_steps t.wire.sends) t.wire.datagrams receiver (new_schedule settings) t.wire.pops t.asked
   listens =
-      subst (λ (xs : List Asked). Listens again (heard_steps samples 0 all_steps t.wire.sends) t.wire.datagrams receiver (new_schedule settings) xs) (sym hearing.asked)
-      (subst (λ (es : List SentSample). Listens again (heard_steps samples 0 all_steps es) t.wire.datagrams receiver (new_schedule settings) hearing.more) (sym hearing.sends) hearing.listens)
+      subst (λ (xs : List Asked). Listens again (heard_steps samples 0 all_steps t.wire.sends) t.wire.datagrams receiver (new_schedule settings) t.wire.pops xs) (sym hearing.asked)
+      (subst (λ (as' : List Answer). Listens again (heard_steps samples 0 all_steps t.wire.sends) t.wire.datagrams receiver (new_schedule settings) as' hearing.more) (sym hearing.pops)
+      (subst (λ (es : List SentSample). Listens again (heard_steps samples 0 all_steps es) t.wire.datagrams receiver (new_schedule settings) hearing.answers hearing.more) (sym hearing.sends) hearing.listens))
 
   abbrev run_part : LosesNone samples (plain_of all_steps) (begins sender receiver) t.wire
   run_part = loses_none again samples (plain_of all_steps) sender receiver t.wire (takes_of again samples (plain_of all_steps) sender receiver t.wire on_wire)
       (sends_from again samples (plain_of all_steps) sender receiver t.wire on_wire hears within) hears within plain
 
-  gaps : (max_wait slack within_time k : ℕ) → WaitsByTime max_wait (length t.wire.datagrams) receiver.packets → AllowsTries settings max_wait slack within_time k (length t.wire.datagrams)
+  gaps : (max_wait slack within_time k : ℕ) → WaitsByTime max_wait receiver.packets
+      → KeepsUp receiver.packets.room receiver.packets.buffer.limit run_part.times.promises.released.units 0 (received_steps samples 0 (plain_of all_steps) t.wire.sends) t.wire.pops
+      → AllowsTries settings max_wait slack within_time k receiver.packets.buffer.limit
       → ServesRequests run_part.times.promises.first slack within_time k (first_size run_part.times.promises.released.units) (heard_steps samples 0 all_steps t.wire.sends) t.asked
       → GapsAreFilled max_wait (first_size run_part.times.promises.released.units) [] (received_steps samples 0 (plain_of all_steps) t.wire.sends)
-  gaps max_wait slack within_time k waiting allows serves =
+  gaps max_wait slack within_time k waiting keeps allows serves =
       fills_gaps again samples (plain_of all_steps) sender receiver t.wire (takes_of again samples (plain_of all_steps) sender receiver t.wire on_wire)
       (sends_from again samples (plain_of all_steps) sender receiver t.wire on_wire hears within) hears within plain exact on_time settings (heard_steps samples 0 all_steps t.wire.sends) t.asked
-      (plain_heard samples 0 all_steps t.wire.sends) listens max_wait slack within_time k waiting allows serves
+      (plain_heard samples 0 all_steps t.wire.sends) listens max_wait slack within_time k waiting keeps allows serves
 
   pub fills : FillsGaps samples all_steps settings (begins_asking sender receiver settings) t
   fills = record {
     run = run_part;
     filled = gaps;
-    in_turn = λ max_wait slack within_time k waiting allows serves. run_part.in_turn max_wait waiting (gaps max_wait slack within_time k waiting allows serves);
-    in_time = λ max_wait slack within_time k waiting allows serves. run_part.in_time max_wait waiting (gaps max_wait slack within_time k waiting allows serves);
+    in_turn = λ max_wait slack within_time k waiting keeps allows serves. run_part.in_turn max_wait waiting keeps (gaps max_wait slack within_time k waiting keeps allows serves);
+    in_time = λ max_wait slack within_time k waiting keeps allows serves. run_part.in_time max_wait waiting keeps (gaps max_wait slack within_time k waiting keeps allows serves);
   }
 
 pub requests_fill_gaps : Exact → OnTime → RequestsFillGaps

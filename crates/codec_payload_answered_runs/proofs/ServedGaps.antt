@@ -17,7 +17,7 @@ use Rattle.codec_payload_feedback_requests.specs.declared.nack.NackSettings.{Nac
 use Rattle.codec_payload_feedback_requests.specs.NackRuns.{Call, Exact, OnTime, answered, begun, followed_since, is_in, next_by, refresh, request_at, requested_at, requests_of, schedule_after, take_due}
 use Rattle.codec_payload_feedback_requests.specs.NackSchedule.{earliest_of, followed}
 use Rattle.codec_payload_feedback_requests.specs.Requests.{has_come as is_past}
-use Rattle.codec_payload_jitter.specs.Missing.{missing_numbers}
+use Rattle.codec_payload_jitter.specs.Missing.{floor_by, missing_numbers}
 use Rattle.codec_payload_jitter.specs.Receiving.{Receiving}
 use Rattle.codec_payload_numbers.specs.NotedTimes.{AreTimesOf, Noted}
 use Rattle.codec_payload_numbers.specs.Numbers.{Numbering, answer_for, greater, lesser, numbering_after, numbering_with}
@@ -34,6 +34,7 @@ use Rattle.codec_payload_buffer_runs.proofs.order.SafetyLemmas.{number_of_sent}
 use Rattle.codec_payload_buffer_runs.proofs.order.TakenLemmas.{IsPlain}
 use Rattle.codec_payload_buffer_runs.proofs.order.TurnLemmas.{IsPush, Setting, count, or_cases}
 use Rattle.codec_payload_buffer_runs.proofs.units.UnitRows.{held_as}
+use Rattle.codec_payload_buffer_runs.specs.Headline.{packets_before}
 use Rattle.codec_payload_buffer_runs.specs.Arrivals.{Tells}
 use Rattle.codec_payload_buffer_runs.specs.RunUnits.{count_after}
 use Rattle.codec_payload_buffer_runs.specs.Schedule.{Answer}
@@ -51,9 +52,9 @@ use Rattle.codec_payload_datagram_runs.specs.declared.run.DatagramStep.TheVarian
 use Rattle.codec_payload_answered_runs.proofs.AskedCourses.{Listens}
 use Rattle.codec_payload_answered_runs.proofs.MissingLemmas.{absent_is, lowest_copy, lowest_popped, misses, not_missing}
 use Rattle.codec_payload_answered_runs.proofs.RepeatedRequests.{IsOpen, late, open_answered, open_asked, open_first, open_sooner, sent_after, settings_stay}
-use Rattle.codec_payload_answered_runs.proofs.WholeTurns.{IsOf, Stands, came_has, not_passed, stands_popped, stands_pushed}
+use Rattle.codec_payload_answered_runs.proofs.WholeTurns.{IsOf, Stands, StandsAt, came_has, not_passed, stands_popped, stands_pushed}
 use Rattle.codec_payload_answered_runs.specs.AskedRuns.{AllowsTries, Asked, AskedStep, Asks, AsksInTime, BeginsAt0, ComesBy, Does, FirstComesFirst, Hears, IfAsked, OneServes, TimesRise, asked_by, plain_of, sooner}
-use Rattle.codec_payload_answered_runs.specs.FilledGaps.{AreFilledAt, Came, CameAt, GapsAreFilled, StartsWhole, WaitsByTime, first_size, has_come}
+use Rattle.codec_payload_answered_runs.specs.FilledGaps.{AreFilledAt, Came, CameAt, GapsAreFilled, KeepsUp, StartsWhole, WaitsByTime, first_size, has_come}
 use Rattle.codec_payload_answered_runs.specs.Repeats.{AreInTime, IsBy, due_by, request_by, retry_most}
 
 -- Times
@@ -105,7 +106,7 @@ serves_taken first within j (suc k) now later x asked is serves =
     ]
 
 module _ (exact : Exact) (on_time : OnTime) (settings : NackSettings) (c : Setting) (r : Receiving) (max_wait slack within k : ℕ) (plain : IsPlain c)
-    (waiting : WaitsByTime max_wait (count c) r) (short : count c < 2 ^ 63) (allows : AllowsTries settings max_wait slack within k (count c)) where
+    (waiting : WaitsByTime max_wait r) (short : r.buffer.limit < 2 ^ 63) (allows : AllowsTries settings max_wait slack within k r.buffer.limit) where
   -- What becomes of a datagram
 
   pub data Phase (time : ℕ) (until : Option ℕ) (xs : List Came) (calls : List Call) (later : List AskedStep) (asked : List Asked) (j : ℕ) : Type 0 where
@@ -307,11 +308,31 @@ module _ (exact : Exact) (on_time : OnTime) (settings : NackSettings) (c : Setti
         let low = goes.low in
         let high = goes.high in
         let most = high.4 m has in
-        let room = allows.capacity in
         misses settings s.packets (c.first + j) c.first (c.first + high.0) low.0 high.1 (above_first j not low.1)
         (not_passed c r max_wait plain waiting short p j (x ∷ xs) s.packets.buffer.cutoff goes.stands.cut not) (omega (arith, over, most))
-        (absent_is s.packets (c.first + j) goes.listening.none_noted (not_held (has_number (c.first + j) s.packets.buffer.held) refl)) (omega (arith, high.3, room))
+        (absent_is s.packets (c.first + j) goes.listening.none_noted (not_held (has_number (c.first + j) s.packets.buffer.held) refl))
+        (λ n is. wide s.packets.buffer.cutoff n goes.stands.cut is)
       where
+        -- the schedule follows as many numbers as the buffer has places
+        wide : (o : Option ℕ) (n : ℕ) → StandsAt c r max_wait plain waiting short p (x ∷ xs) o → floor_by (Some c.first) o ≡ Some n → c.first + goes.high.0 ≤ settings.capacity + n + 1
+        wide None n at is =
+            let none : packets_before p c.units ≡ 0 = ap (λ (m : ℕ). packets_before m c.units) at in
+            let close = goes.stands.near goes.high.0 goes.high.2 in
+            let room = allows.capacity in
+            let same : c.first ≡ n = same_number is in
+            omega (arith, none, close, room, same)
+          where
+            same_number : {a b : ℕ} → Some a ≡ Some b → a ≡ b
+            same_number e = cc
+        wide (Some cut) n at is =
+            let close = goes.stands.near goes.high.0 goes.high.2 in
+            let room = allows.capacity in
+            let same : max c.first cut ≡ n = same_number is in
+            omega (arith, at.0, close, room, same)
+          where
+            same_number : {a b : ℕ} → Some a ≡ Some b → a ≡ b
+            same_number e = cc
+
         above_first : (j : ℕ) → has_come j (x ∷ xs) ≡ false → has_come 0 (x ∷ xs) ≡ true → c.first < c.first + j
         above_first zero not zero_came = absurd (not_both zero_came not)
         above_first (suc j) not zero_came = omega arith
@@ -372,8 +393,8 @@ module _ (exact : Exact) (on_time : OnTime) (settings : NackSettings) (c : Setti
         by_max (inr ge) = let same : high.0 ≡ max high.0 n = omega (arith, ge) in still_has x (max high.0 n) (y ∷ ys) (subst (λ (k : ℕ). has_come k (y ∷ ys) ≡ true) same high.2)
 
     delivered_goes : (p : ℕ) (xs : List Came) (s : Session) (n : ℕ) (now : Ticks) (ks : List ℕ) → Goes p xs s (n ∷ ks) → (datagram : List ℕ) → slice_get datagrams n ≡ Some datagram → (bytes : List ℕ)
-        → IsCopy again datagram bytes → (receipt : Receipt) (mid : Session) → Delivers now bytes s receipt mid → IsIn (steps.Deliver n now) received → Goes p (record { datagram = n; at = now.0 } ∷ xs) mid ks
-    delivered_goes p xs s n now ks goes datagram at bytes copy receipt mid delivers among =
+        → IsCopy again datagram bytes → (receipt : Receipt) (mid : Session) → Delivers now bytes s receipt mid → IsIn (steps.Deliver n now) received → n + r.room < packets_before p c.units + r.buffer.limit → Goes p (record { datagram = n; at = now.0 } ∷ xs) mid ks
+    delivered_goes p xs s n now ks goes datagram at bytes copy receipt mid delivers among close =
         let pk = packet_at_index stream c.first packets datagrams n datagram are c.numbered at in
         let q : Packet = pk.0 in
         let number : answer_for s.packets.numbering (q.number % 2 ^ 16) ≡ extended.Number q.number =
@@ -392,7 +413,7 @@ module _ (exact : Exact) (on_time : OnTime) (settings : NackSettings) (c : Setti
         let values : HasValuesOf ids stream packets n one.meta = (q, pk.1, one.values ∙ ap (λ (i : ExtensionIds). values_read i stream q.ext_vals) goes.same_ids) in
         let push : IsPush c h = (n, q, pk.1, known n q one.meta here one.tells values, ap (λ (x : DepacketizerKind). held_as x one.meta q.payload) goes.stands.ready.beyond.reads) in
         let at_number : number_of h ≡ c.first + n = number_of_sent c.known c.clock_rate c.first c.kind c.faithful c.splits c.units c.lawful c.numbered h push in
-        let pushed_on = stands_pushed c r max_wait plain waiting short p xs s.packets.buffer h n goes.stands push at_number in
+        let pushed_on = stands_pushed c r max_wait plain waiting short p xs s.packets.buffer h n goes.stands push at_number close in
         record {
           listening = one.listening;
           same_ids = ap (λ (x : Kinds). x.ids) one.kinds ∙ goes.same_ids;
@@ -445,33 +466,35 @@ module _ (exact : Exact) (on_time : OnTime) (settings : NackSettings) (c : Setti
     abbrev pub Phases : ℕ → Option ℕ → List Came → List Call → List AskedStep → List Asked → Type 0
     Phases time until xs calls later asked = (j : ℕ) → Phase time until xs calls later asked j
 
-    pub walk : (later : List AskedStep) (asked : List Asked) (time : ℕ) (until : Option ℕ) (p : ℕ) (xs : List Came) (calls : List Call) (s : Session)
-        → Listens again later datagrams s (schedule_after settings calls) asked → TimesRise time later → AsksInTime slack until later asked → FirstComesFirst (first_size c.units) xs later
+    pub walk : (later : List AskedStep) (answers : List Answer) (asked : List Asked) (time : ℕ) (until : Option ℕ) (p : ℕ) (xs : List Came) (calls : List Call) (s : Session)
+        → Listens again later datagrams s (schedule_after settings calls) answers asked → KeepsUp r.room r.buffer.limit c.units p (plain_of later) answers → TimesRise time later → AsksInTime slack until later asked → FirstComesFirst (first_size c.units) xs later
         → ((step : DatagramStep) → IsIn step (plain_of later) → IsIn step received) → Goes p xs s (delivered (plain_of later)) → Phases time until xs calls later asked
         → GapsAreFilled max_wait (first_size c.units) xs (plain_of later)
-    walk [] asked time until p xs calls s listens rise in_time first among goes phases = tt
-    walk (Does (steps.Send i) ∷ later) asked time until p xs calls s listens rise in_time first among goes phases =
-        walk later asked time until p xs calls s listens rise in_time first (λ step is. among step (inr is)) goes
+    walk [] answers asked time until p xs calls s listens keeps rise in_time first among goes phases = tt
+    walk (Does (steps.Send i) ∷ later) answers asked time until p xs calls s listens keeps rise in_time first among goes phases =
+        walk later answers asked time until p xs calls s listens keeps rise in_time first (λ step is. among step (inr is)) goes
         (λ j. other_phase time time until xs calls (steps.Send i) later asked j (omega arith) (λ by is. is) (phases j))
-    walk (Does (steps.Deliver n now) ∷ later) asked time until p xs calls s listens rise in_time first among goes phases =
-        let next = delivered_goes p xs s n now (delivered (plain_of later)) goes listens.0 listens.1 listens.2 listens.3 listens.4 listens.5 listens.6 (among (steps.Deliver n now) (inl refl)) in
-        walk later asked now.0 (sooner until (now.0 + slack)) p (record { datagram = n; at = now.0 } ∷ xs) calls listens.5 listens.7 rise.2 in_time.1 first (λ step is. among step (inr is)) next
+    walk (Does (steps.Deliver n now) ∷ later) answers asked time until p xs calls s listens keeps rise in_time first among goes phases =
+        let next = delivered_goes p xs s n now (delivered (plain_of later)) goes listens.0 listens.1 listens.2 listens.3 listens.4 listens.5 listens.6 (among (steps.Deliver n now) (inl refl)) keeps.0 in
+        walk later answers asked now.0 (sooner until (now.0 + slack)) p (record { datagram = n; at = now.0 } ∷ xs) calls listens.5 listens.7 keeps.1 rise.2 in_time.1 first (λ step is. among step (inr is)) next
         (λ j. delivered_phase time now.0 until xs calls later asked n j now refl rise.0 (phases j))
-    walk (Does (steps.Pop now) ∷ later) asked time until p xs calls s listens rise in_time first among goes phases =
+    walk (Does (steps.Pop now) ∷ later) answers asked time until p xs calls s listens keeps rise in_time first among goes phases =
         let after : Phases now.0 until xs calls later asked = λ j. other_phase time now.0 until xs calls (steps.Pop now) later asked j rise.0 (λ by is. is) (phases j) in
         let filled_at : AreFilledAt max_wait now.0 xs = λ n at j came past below. filled now.0 now.0 until xs calls later asked j n at (after j) in_time.0 rise.2 rise.1 came past below in
+        let kept : KeepsUp r.room r.buffer.limit c.units (count_after p listens.0) (plain_of later) listens.4 =
+        subst (λ (as' : List Answer). KeepsUp r.room r.buffer.limit c.units p (steps.Pop now ∷ plain_of later) as') listens.5 keeps in
         let next = popped_goes p xs s now (delivered (plain_of later)) goes listens.0 listens.1 listens.2 listens.3 filled_at first.0 in
-        (filled_at, first.0, walk later asked now.0 until (count_after p listens.0) xs calls listens.1 listens.4 rise.2 in_time.1 first.1 (λ step is. among step (inr is)) next after)
-    walk (Does steps.Finish ∷ later) asked time until p xs calls s listens rise in_time first among goes phases = absurd first
-    walk (Asks now ∷ later) asked time until p xs calls s listens rise in_time first among goes phases =
+        (filled_at, first.0, walk later listens.4 asked now.0 until (count_after p listens.0) xs calls listens.1 listens.6 kept rise.2 in_time.1 first.1 (λ step is. among step (inr is)) next after)
+    walk (Does steps.Finish ∷ later) answers asked time until p xs calls s listens keeps rise in_time first among goes phases = absurd first
+    walk (Asks now ∷ later) answers asked time until p xs calls s listens keeps rise in_time first among goes phases =
         let ns : List ℕ = missing_numbers s.packets (schedule_after settings calls).settings.capacity in
         let same : ns ≡ missing_numbers s.packets settings.capacity = ap (λ (x : NackSettings). missing_numbers s.packets x.capacity) (settings_stay settings calls) in
         let x : Asked = asked_by now s (schedule_after settings calls) in
         let polls = subst (λ (as' : List Asked). AsksInTime slack until (Asks now ∷ later) as') listens.1 in_time in
-        walk later listens.0 now (until_after now ns calls) p xs (polled now ns calls) s listens.2 rise.2 polls.1 first among goes
+        walk later answers listens.0 now (until_after now ns calls) p xs (polled now ns calls) s listens.2 keeps rise.2 polls.1 first among goes
         (λ j. asked_phase time now until xs calls later listens.0 j ns x refl rise.0 rise.1 polls.0
         (λ m has over not. subst (λ (ms : List ℕ). is_in (c.first + j) (followed settings ms) ≡ true) (sym same) (missing_here p xs s (delivered (plain_of later)) m j goes has over not))
         (λ all. subst (λ (ms : List ℕ). is_in (c.first + j) (followed settings ms) ≡ false) (sym same) (unseen_here p xs s (delivered (plain_of later)) j goes all))
         (subst (λ (as' : List Asked). Phase time until xs calls (Asks now ∷ later) as' j) listens.1 (phases j)))
-    walk (Hears now number ∷ later) asked time until p xs calls s listens rise in_time first among goes phases =
-        walk later asked time until p xs (answered now number ∷ calls) s listens rise in_time first among goes (λ j. answered_phase time now number until xs calls later asked j (phases j))
+    walk (Hears now number ∷ later) answers asked time until p xs calls s listens keeps rise in_time first among goes phases =
+        walk later answers asked time until p xs (answered now number ∷ calls) s listens keeps rise in_time first among goes (λ j. answered_phase time now number until xs calls later asked j (phases j))

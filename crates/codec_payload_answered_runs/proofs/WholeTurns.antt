@@ -1,9 +1,8 @@
 -- The pops of a buffer in which each gap is filled: each returns nothing, or the next unit, whole.
-use Rattle.std.proofs.Common.{◌≡◌, ◌∙◌, refl, sym, ap, subst, ℕ, zero, suc, ◌+◌, ◌-◌, ◌^◌, ◌<◌, ◌≤◌, ◌⊎◌, ◌||◌, ◌&&◌, not, inl, inr, Bool, true, false, List, [], ◌∷◌, Option, Some, None, Ok, Err, arith, cond, drop, eqb, filter, leb, length, ltb, map, take}
+use Rattle.std.proofs.Common.{◌≡◌, ◌∙◌, refl, sym, ap, subst, ℕ, zero, suc, ◌+◌, ◌-◌, ◌^◌, ◌<◌, ◌≤◌, ◌⊎◌, ◌||◌, ◌&&◌, not, inl, inr, Bool, true, false, List, [], ◌∷◌, Option, Some, None, Ok, Err, arith, cond, drop, eqb, filter, leb, length, ltb, map, max, take}
 use Rattle.std.specs.Prelude.{Contains, slice_get}
 use Rattle.std.proofs.lemmas.Bool.{cases_lt, leb-false, leb-true}
 use Rattle.std.proofs.lemmas.Bool.Decides.{nat_tests}
-use Rattle.std.proofs.lemmas.List.{length-map}
 use Rattle.codec_payload_base.specs.declared.wire.Ticks.{Ticks}
 use Rattle.codec_payload_codec.proofs.CaseLemmas.{by_test}
 use Rattle.codec_payload_buffer.proofs.FrameEnds.{few_frames}
@@ -12,7 +11,7 @@ use Rattle.codec_payload_buffer.proofs.MemberLemmas.{IsIn, in_contains}
 use Rattle.codec_payload_buffer.proofs.StretchLemmas.{in_number, range_in}
 use Rattle.codec_payload_buffer.specs.Blanks.{ready_since_among, ready_since_of, received_of}
 use Rattle.codec_payload_buffer.specs.Frames.{IsFrame, frames}
-use Rattle.codec_payload_buffer.specs.Held.{Held, Rises, above, has_number, number_of}
+use Rattle.codec_payload_buffer.specs.Held.{AllAbove, Held, IsAboveCutoff, Rises, above, has_number, number_of}
 use Rattle.codec_payload_buffer.specs.Steps.{Releases, State, due_among, due_of, is_at_most, pushed, starts_right_after}
 use Rattle.codec_payload_buffer.specs.Stretches.{counts, last_or, numbers_from}
 use Rattle.codec_payload_buffer.specs.declared.buffer.frames.CompleteFrame.{CompleteFrame}
@@ -45,11 +44,25 @@ get_below (y ∷ ys) zero q x at le = (y, refl)
 get_below (y ∷ ys) (suc p) zero x at le = absurd (omega (arith, le))
 get_below (y ∷ ys) (suc p) (suc q) x at le = get_below ys p q x at (omega (arith, le))
 
-pub few_filtered : (test : ℕ → Bool) (low n : ℕ) → length (filter test (numbers_from low n)) ≤ n
-few_filtered test low zero = omega arith
-few_filtered test low (suc n) =
-    let rest = few_filtered test (low + 1) n in
-    by_test (test low) (λ b. length (cond b (low ∷ filter test (numbers_from (low + 1) n)) (filter test (numbers_from (low + 1) n))) ≤ suc n) (λ e. omega (arith, rest)) (λ e. omega (arith, rest))
+-- how many numbers of a range pass a test that passes from a up to high alone
+pub few_between : (test : ℕ → Bool) (a high low n : ℕ) → ((x : ℕ) → test x ≡ true → (a ≤ x) × (x < high)) → length (filter test (numbers_from low n)) ≤ high - max low a
+few_between test a high low zero within = omega arith
+few_between test a high low (suc n) within =
+    let rest = few_between test a high (low + 1) n within in
+    by_test (test low) (λ b. test low ≡ b → length (cond b (low ∷ filter test (numbers_from (low + 1) n)) (filter test (numbers_from (low + 1) n))) ≤ high - max low a)
+    (λ t e. let here = within low e in omega (arith, rest, here.0, here.1)) (λ f e. omega (arith, rest)) refl
+
+-- so many packets with rising numbers are in a range
+from_next : (n low high : ℕ) (hs : List Held) → AllAbove n hs → AllHeld (λ (h : Held). (low ≤ number_of h) × (number_of h < high)) hs → AllHeld (λ (h : Held). (n + 1 ≤ number_of h) × (number_of h < high)) hs
+from_next n low high [] above all = tt
+from_next n low high (h ∷ hs) above all = let over = above.0 in ((omega (arith, over), all.0.1), from_next n low high hs above.1 all.1)
+
+few_in : (hs : List Held) (low high : ℕ) → low ≤ high → Rises hs → AllHeld (λ (h : Held). (low ≤ number_of h) × (number_of h < high)) hs → length hs + low ≤ high
+few_in [] low high le rises all = omega (arith, le)
+few_in (h ∷ hs) low high le rises all =
+    let here = all.0 in
+    let rest = few_in hs (number_of h + 1) high (omega (arith, here.1)) rises.1 (from_next (number_of h) low high hs rises.0 all.1) in
+    omega (arith, rest, here.0)
 
 pub came_has : (k at : ℕ) (xs : List Came) → CameAt k at xs → has_come k xs ≡ true
 came_has k at [] is = absurd is
@@ -67,17 +80,15 @@ module _ (c : Setting) where
     pub ready : IsReady c from (pushed s p)
     pub cutoff : (pushed s p).cutoff ≡ s.cutoff
     pub has : (n : ℕ) → counts s (p ∷ []) n ≡ true → has_number n (pushed s p).held ≡ true
-    pub few : length (pushed s p).held ≤ count c
     pub limit : (pushed s p).limit ≡ s.limit
 
-  pub kept : (from : ℕ) (s : State) (p : Held) → IsReady c from s → IsPush c p → count c ≤ s.limit → IsKept from s p
-  kept from s p ready is room =
+  pub kept : (from : ℕ) (s : State) (p : Held) → IsReady c from s → IsPush c p → length (filter (counts s (p ∷ [])) (numbers_from c.first (count c))) ≤ s.limit → IsKept from s p
+  kept from s p ready is few =
       let w : Stretch = record { left = s; pushes = p ∷ []; now = pushed s p } in
       let span : IsSpan c w = record { sent = (is, tt); now = refl } in
       let all : List ℕ = numbers_in c.first (count c) w in
       let left = span_left c from w ready span in
-      let short : length all ≤ count c = few_filtered (counts s (p ∷ [])) c.first (count c) in
-      let none : length all - s.limit ≡ 0 = omega (arith, short, room) in
+      let none : length all - s.limit ≡ 0 = omega (arith, few) in
       let held : map number_of (pushed s p).held ≡ all = left.held ∙ ap (λ (n : ℕ). drop n all) none in
       record {
         ready = span_ready c from w ready span;
@@ -85,13 +96,12 @@ module _ (c : Setting) where
         has = λ n counts_it.
             let within = span_within c from w ready span n counts_it in
             in_number n (pushed s p).held (subst (λ (ns : List ℕ). IsIn n ns) (sym held) (range_in (counts s (p ∷ [])) n c.first (count c) within.0 within.1 counts_it));
-        few = omega (arith, ap length held, length-map (pushed s p).held number_of, short);
         limit = left.limit;
       }
 
 -- The turns of a receiver that waits by time
 
-module _ (c : Setting) (r : Receiving) (max_wait : ℕ) (plain : IsPlain c) (settings : WaitsByTime max_wait (count c) r) (short : count c < 2 ^ 63) where
+module _ (c : Setting) (r : Receiving) (max_wait : ℕ) (plain : IsPlain c) (settings : WaitsByTime max_wait r) (short : r.buffer.limit < 2 ^ 63) where
   -- a held packet came
   abbrev pub IsOf : List Came → Held → Type 0
   IsOf xs h = (k : ℕ) × CameAt k h.meta.received.0 xs × (number_of h ≡ c.first + k)
@@ -101,31 +111,106 @@ module _ (c : Setting) (r : Receiving) (max_wait : ℕ) (plain : IsPlain c) (set
   StandsAt p xs None = p ≡ 0
   StandsAt p xs (Some cut) = (cut + 1 ≡ c.first + packets_before p c.units) × ((j : ℕ) → c.first + j ≤ cut → has_come j xs ≡ true)
 
+  -- what came is less than the limit, but for the room, above the units that were popped
+  abbrev pub IsNear : ℕ → List Came → Type 0
+  IsNear p xs = (k : ℕ) → has_come k xs ≡ true → k + r.room < packets_before p c.units + r.buffer.limit
+
   -- the first p units were popped, and all that came since is held
   pub record Stands (p : ℕ) (xs : List Came) (s : State) : Type 0 where
     pub ready : IsReady c p s
     pub held_in : AllHeld (IsOf xs) s.held
     pub in_held : (k : ℕ) → has_come k xs ≡ true → (is_at_most s.cutoff (c.first + k) ≡ true) ⊎ (has_number (c.first + k) s.held ≡ true)
     pub cut : StandsAt p xs s.cutoff
-    pub few : length s.held ≤ count c
+    pub near : IsNear p xs
     pub limit : s.limit ≡ r.buffer.limit
 
+  -- What came is near
+
+  -- the packets that came are above the cutoff, and near
+  held_range : (p : ℕ) (xs : List Came) (o : Option ℕ) (hs : List Held) → StandsAt p xs o → IsNear p xs → IsAboveCutoff o hs → AllHeld (IsOf xs) hs
+      → AllHeld (λ (h : Held). (c.first + packets_before p c.units ≤ number_of h) × (number_of h < c.first + packets_before p c.units + (r.buffer.limit - r.room))) hs
+  held_range p xs o [] at near above all = tt
+  held_range p xs None (h ∷ hs) at near above all =
+      let none : packets_before p c.units ≡ 0 = ap (λ (m : ℕ). packets_before m c.units) at in
+      let close = near all.0.0 (came_has all.0.0 h.meta.received.0 xs all.0.1) in
+      let number = all.0.2 in
+      ((omega (arith, none, number), omega (arith, close, number)), held_range p xs None hs at near above all.1)
+  held_range p xs (Some cut) (h ∷ hs) at near above all =
+      let over = above.0 in
+      let close = near all.0.0 (came_has all.0.0 h.meta.received.0 xs all.0.1) in
+      let number = all.0.2 in
+      ((omega (arith, at.0, over), omega (arith, close, number)), held_range p xs (Some cut) hs at near above.1 all.1)
+
+  few_held : (p : ℕ) (xs : List Came) (s : State) → Stands p xs s → length s.held ≤ r.buffer.limit - r.room
+  few_held p xs s stands =
+      let low : ℕ = c.first + packets_before p c.units in
+      let few = few_in s.held low (low + (r.buffer.limit - r.room)) (omega arith) stands.ready.beyond.rises (held_range p xs s.cutoff s.held stands.cut stands.near stands.ready.beyond.beyond stands.held_in) in
+      omega (arith, few)
+
+  -- a held packet, by its number
+  held_at : (P : ℕ → Type 0) (hs : List Held) (n : ℕ) → AllHeld (λ (h : Held). P (number_of h)) hs → has_number n hs ≡ true → P n
+  held_at P [] n all is = absurd (cc)
+  held_at P (h ∷ hs) n all is = elim (or_cases (eqb (number_of h) n) (has_number n hs) is) [
+    | inl here ↦ let same : number_of h ≡ n = grind (arith, nat_tests, here) in subst P same all.0
+    | inr later ↦ held_at P hs n all.1 later
+  ]
+
+  -- so few numbers count in a stretch, if what is pushed came
+  pub few_counted : (p : ℕ) (xs : List Came) (s : State) (ps : List Held) → StandsAt p xs s.cutoff → IsNear p xs → IsAboveCutoff s.cutoff s.held → AllHeld (IsOf xs) s.held
+      → ((n : ℕ) → has_number n ps ≡ true → (k : ℕ) × (has_come k xs ≡ true) × (n ≡ c.first + k)) → length (filter (counts s ps) (numbers_from c.first (count c))) ≤ r.buffer.limit
+  few_counted p xs s ps at near above all came =
+      let low : ℕ = c.first + packets_before p c.units in
+      let few = few_between (counts s ps) low (low + (r.buffer.limit - r.room)) c.first (count c) each in
+      omega (arith, few)
+    where
+      pushed_range : (o : Option ℕ) (n : ℕ) → StandsAt p xs o → is_at_most o n ≡ false → (k : ℕ) × (has_come k xs ≡ true) × (n ≡ c.first + k)
+          → (c.first + packets_before p c.units ≤ n) × (n < c.first + packets_before p c.units + (r.buffer.limit - r.room))
+      pushed_range None n at over (k, has, number) =
+          let none : packets_before p c.units ≡ 0 = ap (λ (m : ℕ). packets_before m c.units) at in
+          let close = near k has in
+          (omega (arith, none, number), omega (arith, close, number))
+      pushed_range (Some cut) n at over (k, has, number) =
+          let past = leb-false n cut over in
+          let close = near k has in
+          (omega (arith, at.0, past), omega (arith, close, number))
+
+      not_below : (a b : Bool) → (not a && b) ≡ true → (a ≡ false) × (b ≡ true)
+      not_below false b e = (refl, e)
+      not_below true b e = absurd (cc)
+
+      each : (n : ℕ) → counts s ps n ≡ true → (c.first + packets_before p c.units ≤ n) × (n < c.first + packets_before p c.units + (r.buffer.limit - r.room))
+      each n counts_it = elim (or_cases (has_number n s.held) (not (is_at_most s.cutoff n) && has_number n ps) counts_it) [
+        | inl held ↦
+            held_at (λ (m : ℕ). (c.first + packets_before p c.units ≤ m) × (m < c.first + packets_before p c.units + (r.buffer.limit - r.room))) s.held n
+            (held_range p xs s.cutoff s.held at near above all) held
+        | inr new ↦ let parts = not_below (is_at_most s.cutoff n) (has_number n ps) new in pushed_range s.cutoff n at parts.0 (came n parts.1)
+      ]
+
   -- a push
-  still_of : (x : Came) (xs : List Came) (h : Held) → IsOf xs h → IsOf (x ∷ xs) h
+  pub still_of : (x : Came) (xs : List Came) (h : Held) → IsOf xs h → IsOf (x ∷ xs) h
   still_of x xs h is = (is.0, inr is.1, is.2)
 
   still_come : (x : Came) (k : ℕ) (xs : List Came) → has_come k xs ≡ true → has_come k (x ∷ xs) ≡ true
   still_come x k xs is = or_true (eqb x.datagram k) (has_come k xs) (inr is)
 
-  stands_more : (p : ℕ) (x : Came) (xs : List Came) (cutoff : Option ℕ) → StandsAt p xs cutoff → StandsAt p (x ∷ xs) cutoff
+  pub stands_more : (p : ℕ) (x : Came) (xs : List Came) (cutoff : Option ℕ) → StandsAt p xs cutoff → StandsAt p (x ∷ xs) cutoff
   stands_more p x xs None is = is
   stands_more p x xs (Some cut) is = (is.0, λ j le. still_come x j xs (is.1 j le))
 
-  pub stands_pushed : (p : ℕ) (xs : List Came) (s : State) (h : Held) (k : ℕ) → Stands p xs s → IsPush c h → number_of h ≡ c.first + k
+  pub near_more : (p k : ℕ) (x : Came) (xs : List Came) → x.datagram ≡ k → k + r.room < packets_before p c.units + r.buffer.limit → IsNear p xs → IsNear p (x ∷ xs)
+  near_more p k x xs index close near j has = elim (or_cases (eqb x.datagram j) (has_come j xs) has) [
+    | inl new ↦ let same : x.datagram ≡ j = grind (arith, nat_tests, new) in omega (arith, same, index, close)
+    | inr old ↦ near j old
+  ]
+
+  pub stands_pushed : (p : ℕ) (xs : List Came) (s : State) (h : Held) (k : ℕ) → Stands p xs s → IsPush c h → number_of h ≡ c.first + k → k + r.room < packets_before p c.units + r.buffer.limit
       → Stands p (record { datagram = k; at = h.meta.received.0 } ∷ xs) (pushed s h)
-  stands_pushed p xs s h k stands is number =
+  stands_pushed p xs s h k stands is number close =
       let x : Came = record { datagram = k; at = h.meta.received.0 } in
-      let here = kept c p s h stands.ready is (omega (arith, settings.room, stands.limit)) in
+      let near : IsNear p (x ∷ xs) = near_more p k x xs refl close stands.near in
+      let few = few_counted p (x ∷ xs) s (h ∷ []) (stands_more p x xs s.cutoff stands.cut) near stands.ready.beyond.beyond (all_mapped (IsOf xs) (IsOf (x ∷ xs)) (still_of x xs) s.held stands.held_in)
+      (λ n has. (k, or_true (eqb k k) (has_come k xs) (inl (same_is k)), one_number n has)) in
+      let here = kept c p s h stands.ready is (omega (arith, few, stands.limit)) in
       record {
         ready = here.ready;
         held_in = all_pushed (IsOf (x ∷ xs)) s h (k, inl (refl, refl), number) (all_mapped (IsOf xs) (IsOf (x ∷ xs)) (still_of x xs) s.held stands.held_in);
@@ -146,10 +231,19 @@ module _ (c : Setting) (r : Receiving) (max_wait : ℕ) (plain : IsPlain c) (set
           ]
         ];
         cut = subst (StandsAt p (x ∷ xs)) (sym here.cutoff) (stands_more p x xs s.cutoff stands.cut);
-        few = here.few;
+        near = near;
         limit = here.limit ∙ stands.limit;
       }
     where
+      same_is : (j : ℕ) → eqb j j ≡ true
+      same_is j = grind (arith, nat_tests)
+
+      one_number : (n : ℕ) → has_number n (h ∷ []) ≡ true → n ≡ c.first + k
+      one_number n has = elim (or_cases (eqb (number_of h) n) false has) [
+        | inl e ↦ let same : number_of h ≡ n = grind (arith, nat_tests, e) in omega (arith, same, number)
+        | inr no_more ↦ absurd (cc)
+      ]
+
       fresh : (a b : Bool) → a ≡ false → b ≡ true → (not a && b) ≡ true
       fresh false true e f = refl
       fresh true b e f = absurd (cc)
@@ -205,11 +299,11 @@ module _ (c : Setting) (r : Receiving) (max_wait : ℕ) (plain : IsPlain c) (set
   is_over false true e f = absurd (cc)
   is_over false false e f = absurd (cc)
 
-  waits_as : (s : State) (now h : ℕ) → length s.held ≤ count c → s.limit ≡ r.buffer.limit → wait_of r false s now ≡ Some h → Waits s now h
-  waits_as s now h few limit is = by_cases (is_pressed (asked s) now) (is_starting (asked s)) refl refl
+  waits_as : (s : State) (now h : ℕ) → length s.held ≤ r.buffer.limit - r.room → r.room ≤ r.buffer.limit → s.limit ≡ r.buffer.limit → wait_of r false s now ≡ Some h → Waits s now h
+  waits_as s now h few room limit is = by_cases (is_pressed (asked s) now) (is_starting (asked s)) refl refl
     where
       roomy : has_little_room (asked s) ≡ false
-      roomy = let enough : r.room ≤ s.limit - length s.held = omega (arith, settings.room, few, limit) in grind (arith, nat_tests, enough)
+      roomy = let enough : r.room ≤ s.limit - length s.held = omega (arith, room, few, limit) in grind (arith, nat_tests, enough)
 
       by_both : (b d : Bool) → is_pressed (asked s) now ≡ b → is_starting (asked s) ≡ d → wait_by b d (most_held_back r.wait_limits.hold_back) ≡ Some h
       by_both b d e f =
@@ -344,7 +438,7 @@ module _ (c : Setting) (r : Receiving) (max_wait : ℕ) (plain : IsPlain c) (set
           ]
 
           by_wait : {k : ℕ} → Waits s now k → k < length (frames s.held) → IsNextFrame p (record s { hold_back = h }) f (frame_due c p (record s { hold_back = h }) f beyond due)
-          by_wait (patient many) more = absurd (omega (arith, many, more, few_frames s.held, stands.few, short))
+          by_wait (patient many) more = absurd (omega (arith, many, more, few_frames s.held, few_held p xs s stands, short))
           by_wait (overdue over) more =
               let since : last_at.0.0 + max_wait ≤ now = overdue_since s now f first_is.0 last_at.0 first_is.1 last_at.1 over in
               let at = (subst (StandsAt p xs) e stands.cut).0 in
@@ -399,7 +493,7 @@ module _ (c : Setting) (r : Receiving) (max_wait : ℕ) (plain : IsPlain c) (set
     held_in = stands.held_in;
     in_held = stands.in_held;
     cut = stands.cut;
-    few = stands.few;
+    near = stands.near;
     limit = stands.limit;
   }
 
@@ -431,7 +525,7 @@ module _ (c : Setting) (r : Receiving) (max_wait : ℕ) (plain : IsPlain c) (set
                 | inr there ↦ inr (ap (has_number (c.first + k)) held ∙ has_above (c.first + k) f.last s.held over there)
               ]) refl;
           cut = subst (StandsAt (p + 1) xs) (sym cutoff) (omega (arith, whole.end), λ j le. up_to p xs s f stands (omega (arith, (frame_due c p mid f ready.beyond out.is_due).start, ap (λ (m : ℕ). packets_before m c.units) is.0, ap length is.1)) (last_frame s f first.0 ready.beyond.rises first.1) j le);
-          few = omega (arith, ap length held, above_few f.last s.held, stands.few);
+          near = λ k has. let close = stands.near k has in omega (arith, close, before_up p mid t rel ready.beyond out is.0);
           limit = limit ∙ stands.limit;
         },
       )
@@ -446,12 +540,6 @@ module _ (c : Setting) (r : Receiving) (max_wait : ℕ) (plain : IsPlain c) (set
       before_up p mid t rel beyond out same =
           let next = next_within p mid out.frame (frame_due c p mid out.frame beyond out.is_due) in
           omega (arith, next.3)
-
-      above_few : (last : ℕ) (hs : List Held) → length (above last hs) ≤ length hs
-      above_few last [] = omega arith
-      above_few last (p ∷ ps) =
-          let rest = above_few last ps in
-          by_test (ltb last (number_of p)) (λ b. length (cond b (p ∷ above last ps) (above last ps)) ≤ length (p ∷ ps)) (λ e. omega (arith, rest)) (λ e. omega (arith, rest))
 
   -- the cutoff is below what did not come
   pub not_passed : (p j : ℕ) (xs : List Came) (o : Option ℕ) → StandsAt p xs o → has_come j xs ≡ false → is_at_most o (c.first + j) ≡ false
@@ -468,17 +556,24 @@ module _ (c : Setting) (r : Receiving) (max_wait : ℕ) (plain : IsPlain c) (set
       → AnswersTurn (wait_of r false s now) s passed a t → Next p xs a t
   stands_popped p now xs s t passed a stands filled starts turn = by_wait (wait_of r false s now) refl turn
     where
-      by_pop : (h : ℕ) (b : Answer) → Waits s now h → IsPop c (record s { hold_back = h }) t passed b → Next p xs b t
-      by_pop h None w (waits passes nothing) =
+      by_pop : (h : ℕ) (b : Answer) → wait_of r false s now ≡ Some h → IsPop c (record s { hold_back = h }) t passed b → Next p xs b t
+      by_pop h None e (waits passes nothing) =
           let same = stays_plain c p (record s { hold_back = h }) t passed (ready_with c p h s stands.ready).beyond plain passes in
           (tt, subst (Stands p xs) (sym same.0) (stands_with p h xs s stands))
-      by_pop h (Some (Ok rel)) w (releases mid passes out) =
+      by_pop h (Some (Ok rel)) e (releases mid passes out) =
           let same = stays_plain c p (record s { hold_back = h }) mid passed (ready_with c p h s stands.ready).beyond plain passes in
-          released_next p now h xs s t rel stands w filled starts (subst (λ (x : State). Releases x rel t) same.0 out)
-      by_pop h (Some (Err fault)) w pop = elim pop [ ]
+          let here : Releases (record s { hold_back = h }) rel t = subst (λ (x : State). Releases x rel t) same.0 out in
+          let first = due_is (record s { hold_back = h }) (frames s.held) here.frame here.is_due in
+          let last = last_received s.held here.frame first.0 first.1 in
+          let came = came_of xs s.held here.frame.last last.0 stands.held_in last.1 in
+          let close = stands.near came.0 (came_has came.0 last.0.0 xs came.1) in
+          let frame = frame_due c p (record s { hold_back = h }) here.frame (ready_with c p h s stands.ready).beyond here.is_due in
+          let next = next_within p (record s { hold_back = h }) here.frame frame in
+          let room : r.room ≤ r.buffer.limit = omega (arith, close, came.2, frame.stop, next.2, next.3) in
+          released_next p now h xs s t rel stands (waits_as s now h (few_held p xs s stands) room stands.limit e) filled starts here
+      by_pop h (Some (Err fault)) e pop = elim pop [ ]
 
       by_wait : (w : Option ℕ) → wait_of r false s now ≡ w → AnswersTurn w s passed a t → Next p xs a t
       by_wait None e is =
           subst (λ (b : Answer). Next p xs b t) (sym is.1) (tt, subst (Stands p xs) (sym is.2) stands)
-      by_wait (Some h) e is =
-          by_pop h a (waits_as s now h stands.few stands.limit e) (pop_is c p (record s { hold_back = h }) t passed a (ready_with c p h s stands.ready).beyond is.1 is.0)
+      by_wait (Some h) e is = by_pop h a e (pop_is c p (record s { hold_back = h }) t passed a (ready_with c p h s stands.ready).beyond is.1 is.0)

@@ -1,5 +1,5 @@
 -- A run whose parts are all of this library: a sender with the history of its datagrams, a receiver, and the schedule of its requests.
-use Rattle.std.specs.Prelude.{◌≡◌, ℕ, zero, suc, ◌+◌, ◌%◌, ◌<◌, ◌≤◌, ◌⊎◌, List, [], ◌∷◌, ◌++◌, Option, Some, None, length, slice_get}
+use Rattle.std.specs.Prelude.{◌≡◌, ℕ, zero, suc, ◌+◌, ◌%◌, ◌<◌, ◌≤◌, ◌⊎◌, List, [], ◌∷◌, ◌++◌, Option, Some, None, slice_get}
 use Rattle.codec_payload_base.specs.declared.wire.Ticks.{Ticks}
 use Rattle.codec_payload_feedback_requests.specs.declared.nack.NackSettings.{NackSettings}
 use Rattle.codec_payload_feedback_requests.specs.NackRuns.{is_in}
@@ -22,7 +22,7 @@ use Rattle.codec_payload_datagram_runs.specs.declared.history_run.HistoryStep.{H
 use Rattle.codec_payload_datagram_runs.specs.declared.history_run.HistoryStep.TheVariants as history_steps
 use Rattle.codec_payload_datagram_runs.specs.declared.run.DatagramStep.TheVariants as steps
 use Rattle.codec_payload_datagram_runs.specs.declared.run.SentSample.{SentSample}
-use Rattle.codec_payload_answered_runs.specs.FilledGaps.{AllArePopped, WaitsByTime, first_size}
+use Rattle.codec_payload_answered_runs.specs.FilledGaps.{AllArePopped, KeepsUp, WaitsByTime, first_size}
 use Rattle.codec_payload_answered_runs.specs.AskedRuns.{AllowsTries, Asked, AskedStep, Asking, Asks, AsksInTime, BeginsAt0, Does, FillsGaps, FirstComesFirst, Hears, IfAsked, OneServes, TimesRise, asked_by, heard_steps, plain_of, wanted_by}
 
 -- The run
@@ -213,13 +213,17 @@ AnswersRequests first slack delay k size samples all_steps s t =
 -- out; and each in time, if pops come until None after each delivery and at each deadline
 pub record ComeBack (samples : List Sample) (all_steps : List AnsweredStep) (settings : NackSettings) (s t : Answering) : Type 0 where
   pub gaps : FillsGaps samples (asked_steps_of samples all_steps s t) settings (asking_of s) (asking_of t)
-  pub in_turn : (max_wait slack delay k : ℕ) → WaitsByTime max_wait (length t.link.wire.datagrams) s.link.wire.session.packets
-      → AllowsTries settings max_wait slack (delay + delay) k (length t.link.wire.datagrams)
+  pub in_turn : (max_wait slack delay k : ℕ) → WaitsByTime max_wait s.link.wire.session.packets
+      → KeepsUp s.link.wire.session.packets.room s.link.wire.session.packets.buffer.limit gaps.run.times.promises.released.units 0
+      (received_steps samples 0 (plain_of (asked_steps_of samples all_steps s t)) t.link.wire.sends) t.link.wire.pops
+      → AllowsTries settings max_wait slack (delay + delay) k s.link.wire.session.packets.buffer.limit
       → AnswersRequests gaps.run.times.promises.first slack delay k (first_size gaps.run.times.promises.released.units) samples all_steps s t
       → AreNext (IsKnownOf samples (plain_of (asked_steps_of samples all_steps s t)) s.link.wire t.link.wire gaps.run.times.promises.released.units) (may_split s.link.wire.sending.packetizer)
       gaps.run.times.promises.released.units 0 t.link.wire.pops
-  pub in_time : (max_wait slack delay k : ℕ) → WaitsByTime max_wait (length t.link.wire.datagrams) s.link.wire.session.packets
-      → AllowsTries settings max_wait slack (delay + delay) k (length t.link.wire.datagrams)
+  pub in_time : (max_wait slack delay k : ℕ) → WaitsByTime max_wait s.link.wire.session.packets
+      → KeepsUp s.link.wire.session.packets.room s.link.wire.session.packets.buffer.limit gaps.run.times.promises.released.units 0
+      (received_steps samples 0 (plain_of (asked_steps_of samples all_steps s t)) t.link.wire.sends) t.link.wire.pops
+      → AllowsTries settings max_wait slack (delay + delay) k s.link.wire.session.packets.buffer.limit
       → AnswersRequests gaps.run.times.promises.first slack delay k (first_size gaps.run.times.promises.released.units) samples all_steps s t
       → OfEachLog samples (plain_of (asked_steps_of samples all_steps s t)) s.link.wire t.link.wire gaps.run.times.promises.released.units
       (λ turns end. PopsInTimeFrom0 max_wait (received_steps samples 0 (plain_of (asked_steps_of samples all_steps s t)) t.link.wire.sends) turns

@@ -1,6 +1,6 @@
 -- A run over datagrams whose receiver requests what is missing: each number that is requested comes, if not too many of its requests
 -- are in vain.
-use Rattle.std.specs.Prelude.{◌≡◌, ℕ, zero, suc, ◌+◌, ◌*◌, ◌^◌, ◌<◌, ◌≤◌, ◌⊎◌, min, nat_lt, if◌then◌else◌, Bool, true, false, List, [], ◌∷◌, ◌++◌, Option, Some, None, length, slice_get}
+use Rattle.std.specs.Prelude.{◌≡◌, ℕ, zero, suc, ◌+◌, ◌*◌, ◌^◌, ◌<◌, ◌≤◌, ◌⊎◌, min, nat_lt, if◌then◌else◌, Bool, true, false, List, [], ◌∷◌, ◌++◌, Option, Some, None, slice_get}
 use Rattle.codec_payload_feedback_requests.specs.declared.nack.NackSettings.{NackSettings}
 use Rattle.codec_payload_feedback_requests.specs.NackRuns.{is_in}
 use Rattle.codec_payload_feedback_requests.specs.NackSchedule.{Schedule, after_answer, after_due, due_numbers, earliest_of, new_schedule, refreshed}
@@ -18,7 +18,7 @@ use Rattle.codec_payload_datagram_runs.specs.WireRuns.{DoesStep, Wire, begins}
 use Rattle.codec_payload_datagram_runs.specs.declared.run.DatagramStep.{DatagramStep}
 use Rattle.codec_payload_datagram_runs.specs.declared.run.DatagramStep.TheVariants as steps
 use Rattle.codec_payload_datagram_runs.specs.declared.run.SentSample.{SentSample}
-use Rattle.codec_payload_answered_runs.specs.FilledGaps.{AllArePopped, Came, LosesNone, StartsWhole, WaitsByTime, GapsAreFilled, first_size}
+use Rattle.codec_payload_answered_runs.specs.FilledGaps.{AllArePopped, Came, GapsAreFilled, KeepsUp, LosesNone, StartsWhole, WaitsByTime, first_size}
 use Rattle.codec_payload_answered_runs.specs.Repeats.{IsBy, due_by, retry_most}
 
 -- The run
@@ -157,11 +157,11 @@ BeginsAt0 [] = Unit {0}
 BeginsAt0 (k ∷ ks) = k ≡ 0
 
 -- the settings allow k + 1 tries in time: from the moment that a datagram behind a gap came until the last of these requests, and
--- `within` more, less than `max_wait` passes. The schedule follows as many numbers as there are datagrams
-pub record AllowsTries (settings : NackSettings) (max_wait slack within k count : ℕ) : Type 0 where
+-- `within` more, less than `max_wait` passes. The schedule follows as many numbers as the buffer of the receiver has places
+pub record AllowsTries (settings : NackSettings) (max_wait slack within k limit : ℕ) : Type 0 where
   pub tries : k < settings.tries
   pub small : settings.tries < 2 ^ 32
-  pub capacity : count ≤ settings.capacity
+  pub capacity : limit ≤ settings.capacity
   pub soon : slack + settings.first_wait + slack + k * (retry_most settings + slack) + within < max_wait
   pub short : max_wait < 2 ^ 63
 
@@ -180,13 +180,19 @@ pub record ServesRequests (first slack within k size : ℕ) (heard : List AskedS
 -- whole and none left out; and each in time, if pops come until None after each delivery and at each deadline
 pub record FillsGaps (samples : List Sample) (all_steps : List AskedStep) (settings : NackSettings) (s t : Asking) : Type 0 where
   pub run : LosesNone samples (plain_of all_steps) s.wire t.wire
-  pub filled : (max_wait slack within k : ℕ) → WaitsByTime max_wait (length t.wire.datagrams) s.wire.session.packets → AllowsTries settings max_wait slack within k (length t.wire.datagrams)
+  pub filled : (max_wait slack within k : ℕ) → WaitsByTime max_wait s.wire.session.packets
+      → KeepsUp s.wire.session.packets.room s.wire.session.packets.buffer.limit run.times.promises.released.units 0 (received_steps samples 0 (plain_of all_steps) t.wire.sends) t.wire.pops
+      → AllowsTries settings max_wait slack within k s.wire.session.packets.buffer.limit
       → ServesRequests run.times.promises.first slack within k (first_size run.times.promises.released.units) (heard_steps samples 0 all_steps t.wire.sends) t.asked
       → GapsAreFilled max_wait (first_size run.times.promises.released.units) [] (received_steps samples 0 (plain_of all_steps) t.wire.sends)
-  pub in_turn : (max_wait slack within k : ℕ) → WaitsByTime max_wait (length t.wire.datagrams) s.wire.session.packets → AllowsTries settings max_wait slack within k (length t.wire.datagrams)
+  pub in_turn : (max_wait slack within k : ℕ) → WaitsByTime max_wait s.wire.session.packets
+      → KeepsUp s.wire.session.packets.room s.wire.session.packets.buffer.limit run.times.promises.released.units 0 (received_steps samples 0 (plain_of all_steps) t.wire.sends) t.wire.pops
+      → AllowsTries settings max_wait slack within k s.wire.session.packets.buffer.limit
       → ServesRequests run.times.promises.first slack within k (first_size run.times.promises.released.units) (heard_steps samples 0 all_steps t.wire.sends) t.asked
       → AreNext (IsKnownOf samples (plain_of all_steps) s.wire t.wire run.times.promises.released.units) (may_split s.wire.sending.packetizer) run.times.promises.released.units 0 t.wire.pops
-  pub in_time : (max_wait slack within k : ℕ) → WaitsByTime max_wait (length t.wire.datagrams) s.wire.session.packets → AllowsTries settings max_wait slack within k (length t.wire.datagrams)
+  pub in_time : (max_wait slack within k : ℕ) → WaitsByTime max_wait s.wire.session.packets
+      → KeepsUp s.wire.session.packets.room s.wire.session.packets.buffer.limit run.times.promises.released.units 0 (received_steps samples 0 (plain_of all_steps) t.wire.sends) t.wire.pops
+      → AllowsTries settings max_wait slack within k s.wire.session.packets.buffer.limit
       → ServesRequests run.times.promises.first slack within k (first_size run.times.promises.released.units) (heard_steps samples 0 all_steps t.wire.sends) t.asked
       → OfEachLog samples (plain_of all_steps) s.wire t.wire run.times.promises.released.units
       (λ turns end. PopsInTimeFrom0 max_wait (received_steps samples 0 (plain_of all_steps) t.wire.sends) turns

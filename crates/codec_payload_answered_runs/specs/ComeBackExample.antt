@@ -1,13 +1,15 @@
 -- A run that meets the premises: of three frames of Opus the second is lost, and the first request for it too. The second request is
 -- answered, and the answer arrives.
 use Rattle.std.specs.Global.{Vec}
-use Rattle.std.specs.Prelude.{◌≡◌, ℕ, List, [], ◌∷◌, Option, Some, None}
+use Rattle.std.specs.Prelude.{◌≡◌, ℕ, List, [], ◌∷◌, Option, Some, None, length}
 use Rattle.codec_payload_feedback_requests.specs.declared.nack.NackSettings.{NackSettings}
 use Rattle.codec_payload_sending_history.specs.Packets.{Past}
 use Rattle.codec_payload_sending_history.specs.declared.retransmission.HistorySettings.{HistorySettings}
 use Rattle.codec_payload_sending_history.specs.declared.retransmission.Resent.{Resent}
 use Rattle.codec_payload_sending_history.specs.declared.retransmission.Resent.TheVariants as results
 use Rattle.codec_payload_buffer_runs.specs.ReportedIds.{next_id}
+use Rattle.codec_payload_buffer_runs.specs.Schedule.{Answer}
+use Rattle.codec_payload_buffer_runs.specs.SentStream.{SentUnit}
 use Rattle.codec_payload_datagram_runs.specs.HistoryReleases.{AnswersReceiver}
 use Rattle.codec_payload_datagram_runs.specs.HistoryRunExample.{resent_receiver}
 use Rattle.codec_payload_datagram_runs.specs.Releases.{IsWithinWindows, delivered, received_steps}
@@ -17,7 +19,7 @@ use Rattle.codec_payload_datagram_runs.specs.declared.run.DatagramStep.{Datagram
 use Rattle.codec_payload_datagram_runs.specs.declared.run.DatagramStep.TheVariants as steps
 use Rattle.codec_payload_answered_runs.specs.AnsweredRuns.{AnsweredStep, IsKind, Links, Polls, asked_steps}
 use Rattle.codec_payload_answered_runs.specs.AskedRuns.{AllowsTries, Asked, plain_of}
-use Rattle.codec_payload_answered_runs.specs.FilledGaps.{WaitsByTime}
+use Rattle.codec_payload_answered_runs.specs.FilledGaps.{KeepsUp, WaitsByTime}
 
 -- the history answers at any time
 abbrev pub patient_history : HistorySettings
@@ -28,7 +30,7 @@ answering_history = record { limit = 500; interval = 0; stream = patient_history
 
 -- a number is requested at most twice, 30 ms apart
 abbrev pub two_tries : NackSettings
-two_tries = record { first_wait = 10; retry = 30; shortest_retry = 20; longest_retry = 30; tries = 2; capacity = 1024 }
+two_tries = record { first_wait = 10; retry = 30; shortest_retry = 20; longest_retry = 30; tries = 2; capacity = 4096 }
 
 abbrev pub does : DatagramStep → AnsweredStep
 does step = Links (history_steps.Plain step)
@@ -61,8 +63,10 @@ pub record AnswersCanBeMet : Type 0 where
   pub any_time : answering_history.interval ≡ 0
   pub no_ids : next_id opus_sender.packetizer ≡ None
   pub within : (no_media : Vec ℕ) → IsWithinWindows frames_sent plain_then opus_sender (resent_receiver no_media) one_each
-  pub waits : (no_media : Vec ℕ) → let receiver = resent_receiver no_media in WaitsByTime 100 3 receiver.packets
-  pub allows : AllowsTries two_tries 100 0 20 1 3
+  pub waits : (no_media : Vec ℕ) → let receiver = resent_receiver no_media in WaitsByTime 100 receiver.packets
+  -- whatever units the six pops return
+  pub keeps_up : (units : List SentUnit) (answers : List Answer) → length answers ≡ 6 → KeepsUp 512 4096 units 0 (received_steps frames_sent 0 plain_then one_each) answers
+  pub allows : AllowsTries two_tries 100 0 20 1 4096
   pub kind : IsKind 65535 500 131071 0 10 1 1 frames_sent come_back_steps one_each one_written asked_then
   -- the packets that it delivers
   pub are_delivered : delivered (received_steps frames_sent 0 plain_then one_each) ≡ 0 ∷ 2 ∷ 1 ∷ []

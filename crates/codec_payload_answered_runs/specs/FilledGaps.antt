@@ -1,5 +1,5 @@
 -- Runs over datagrams in which each gap is filled before a frame behind it is due: each unit is popped, whole and in turn.
-use Rattle.std.specs.Prelude.{◌≡◌, ℕ, ◌+◌, ◌<◌, ◌≤◌, ◌⊎◌, ◌==◌, ◌||◌, Bool, true, false, List, [], ◌∷◌, Some, None, length, slice_get}
+use Rattle.std.specs.Prelude.{◌≡◌, ℕ, ◌+◌, ◌<◌, ◌≤◌, ◌⊎◌, ◌==◌, ◌||◌, Bool, true, false, List, [], ◌∷◌, Some, None, slice_get}
 use Rattle.codec_payload_codec.specs.Packetizers.{may_split}
 use Rattle.codec_payload_jitter.specs.Receiving.{Receiving}
 use Rattle.codec_payload_metadata.specs.declared.meta.RtpMeta.{RtpMeta}
@@ -11,7 +11,8 @@ use Rattle.codec_payload_receiver.specs.Sessions.{Session}
 use Rattle.codec_payload_buffer_runs.specs.Headline.{packets_before}
 use Rattle.codec_payload_buffer_runs.specs.Log.{Stretch, Turn}
 use Rattle.codec_payload_buffer_runs.specs.ReportedIds.{next_id}
-use Rattle.codec_payload_buffer_runs.specs.RunUnits.{AreNext, IsHeldWhole, ReleasesWhole}
+use Rattle.codec_payload_buffer_runs.specs.RunUnits.{AreNext, IsHeldWhole, ReleasesWhole, count_after}
+use Rattle.codec_payload_buffer_runs.specs.Schedule.{Answer}
 use Rattle.codec_payload_buffer_runs.specs.SentStream.{SentUnit}
 use Rattle.codec_payload_datagram_runs.specs.HistoryReleases.{AnswersReceiver, plain_steps_of}
 use Rattle.codec_payload_datagram_runs.specs.HistoryRuns.{HistoryRuns, Resending, begins_with}
@@ -56,12 +57,21 @@ GapsAreFilled max_wait size xs (steps.Deliver k now ∷ later) = GapsAreFilled m
 GapsAreFilled max_wait size xs (steps.Pop now ∷ later) = AreFilledAt max_wait now.0 xs × StartsWhole size xs × GapsAreFilled max_wait size xs later
 GapsAreFilled max_wait size xs (steps.Finish ∷ later) = ⊥
 
--- the receiver waits for missing packets by time alone, and has room for this many packets
-pub record WaitsByTime (max_wait count : ℕ) (r : Receiving) : Type 0 where
+-- The receiver keeps up: when a datagram comes, fewer than `limit` - `room` datagrams lie from the first one of the next unit up to it.
+-- So the buffer has room. `p` units were popped before these steps, and these are the answers of the pops
+abbrev pub KeepsUp : (room limit : ℕ) → List SentUnit → (p : ℕ) → List DatagramStep → List Answer → Type 0
+KeepsUp room limit units p [] answers = Unit {0}
+KeepsUp room limit units p (steps.Send i ∷ later) answers = KeepsUp room limit units p later answers
+KeepsUp room limit units p (steps.Deliver k now ∷ later) answers = (k + room < packets_before p units + limit) × KeepsUp room limit units p later answers
+KeepsUp room limit units p (steps.Pop now ∷ later) [] = ⊥
+KeepsUp room limit units p (steps.Pop now ∷ later) (answer ∷ answers) = KeepsUp room limit units (count_after p answer) later answers
+KeepsUp room limit units p (steps.Finish ∷ later) answers = KeepsUp room limit units p later answers
+
+-- the receiver waits for missing packets by time alone
+pub record WaitsByTime (max_wait : ℕ) (r : Receiving) : Type 0 where
   pub some : 0 < max_wait
   pub limit : r.wait_limits.max_wait ≡ Some max_wait
   pub by_time : r.wait_limits.hold_back ≡ None
-  pub room : count + r.room ≤ r.buffer.limit
 
 -- Guarantees
 
@@ -94,10 +104,12 @@ first_size units = packets_before 1 units
 -- whole and none left out; and each in time, if pops come until None after each delivery and at each deadline
 pub record LosesNone (samples : List Sample) (all_steps : List DatagramStep) (s t : Wire) : Type 0 where
   pub times : KeepsTimes samples all_steps s t
-  pub in_turn : (max_wait : ℕ) → WaitsByTime max_wait (length t.datagrams) s.session.packets
+  pub in_turn : (max_wait : ℕ) → WaitsByTime max_wait s.session.packets
+      → KeepsUp s.session.packets.room s.session.packets.buffer.limit times.promises.released.units 0 (received_steps samples 0 all_steps t.sends) t.pops
       → GapsAreFilled max_wait (first_size times.promises.released.units) [] (received_steps samples 0 all_steps t.sends)
       → AreNext (IsKnownOf samples all_steps s t times.promises.released.units) (may_split s.sending.packetizer) times.promises.released.units 0 t.pops
-  pub in_time : (max_wait : ℕ) → WaitsByTime max_wait (length t.datagrams) s.session.packets
+  pub in_time : (max_wait : ℕ) → WaitsByTime max_wait s.session.packets
+      → KeepsUp s.session.packets.room s.session.packets.buffer.limit times.promises.released.units 0 (received_steps samples 0 all_steps t.sends) t.pops
       → GapsAreFilled max_wait (first_size times.promises.released.units) [] (received_steps samples 0 all_steps t.sends)
       → OfEachLog samples all_steps s t times.promises.released.units
       (λ turns end. PopsInTimeFrom0 max_wait (received_steps samples 0 all_steps t.sends) turns
