@@ -30,7 +30,7 @@ import documents
 ROOT = os.path.dirname(os.path.dirname(os.path.realpath(__file__)))
 ARCHIVE = f"{ROOT}/c/out/libcodec_payload.a"
 # Examples that receive nothing.
-RECEIVE_NOTHING = {"bandwidth", "sdp"}
+RECEIVE_NOTHING = {"bandwidth", "longer_way", "sdp"}
 # Media servers: they forward what the session took.
 FORWARD = {"sfu"}
 # Programs that need a special peer, which tools/chromium/chromium_peer.py is.

@@ -55,7 +55,7 @@ crate() {
     fallible=$(sed -n 's/^test result: ok. \([0-9]*\) passed.*/\1/p' "$work/log" | awk '{ sum += $1 } END { print sum }')
     RUSTDOCFLAGS="-D warnings" step cargo doc --quiet --no-deps
     # Some examples print a table of a page.
-    tables="bandwidth:BANDWIDTH narrow:BANDWIDTH waiting:LIMITS restarts:LIMITS adaptive_wait:LIMITS session_requests:FEEDBACK"
+    tables="bandwidth:BANDWIDTH narrow:BANDWIDTH longer_way:BANDWIDTH waiting:LIMITS restarts:LIMITS adaptive_wait:LIMITS session_requests:FEEDBACK"
     for example in examples/*.rs; do
         example=$(basename "$example" .rs)
         case " $tables " in

@@ -92,8 +92,8 @@ impl Way {
             return;
         }
         let mut left = now;
-        if self.rate > 0 {
-            self.free_at = begin + datagram.len() as u64 * 8_000_000 / self.rate;
+        if let Some(takes) = (datagram.len() as u64 * 8_000_000).checked_div(self.rate) {
+            self.free_at = begin + takes;
             left = self.free_at / 1_000;
         }
         self.chance = self

@@ -64,6 +64,16 @@ static void list_choices(list *to, peer *it, peer *from) {
     to->len++;
 }
 
+/* If there is nothing to choose, all is sent: it leaves at the rate at which it comes now, and what waits within a second. */
+static void follow(list *to, const peer *it, peer *from) {
+    size_t highest = to->len - 2;
+    int track = to->layers[highest].track;
+    if (to->rates[0].rate < to->rates[highest].rate || !it->media[VIDEO].used) return;
+    uint64_t now = publisher_latest_rate(from, track) + publisher_rate(from, AUDIO, 0), waits = it->path->state.waiting * 8;
+    for (size_t i = 0; i <= highest; i++) to->rates[i].rate = MAX(to->rates[i].rate, now) + waits;
+    to->rates[highest + 1].rate = MAX(to->rates[highest + 1].rate, to->rates[highest].rate);
+}
+
 /* Whether the path has room for RED beside a choice: half of the audio's rate more, and a twentieth of all. */
 static bool has_room_for_red(const viewer_path *path, peer *from, uint64_t rate) {
     return !path->follows || path->state.estimate >= (rate + publisher_rate(from, AUDIO, 0) / 2) * 21 / 20;
@@ -88,6 +98,7 @@ void path_choose(peer *it, peer *from, uint64_t now) {
     path->next_choice = (now / interval + 1) * interval;    /* of all viewers at once */
     if (!from || !it->secure || path->unheard == 0) return; /* what is silent says nothing about the path */
     list_choices(&all, it, from);
+    follow(&all, it, from);
     if (it->media[VIDEO].used && (all.rates[0].rate == 0 || !it->viewer[VIDEO].newest_len)) return;
     if (cpay_path_choose(&path->carries, now, all.rates, all.len, &order)) return;
     if (cpay_path_state(&path->carries, &path->state)) return;

@@ -46,7 +46,10 @@ static peer *free_place(void) {
         if (!it->used) return it;
         if (peer_is_silent(it) && (!silent || it->heard < silent->heard)) silent = it;
     }
-    if (silent) peer_free(silent);
+    if (silent) {
+        snprintf(silent->why, sizeof silent->why, "It was silent.");
+        peer_free(silent);
+    }
     return silent;
 }
 

@@ -23,7 +23,8 @@ enum {
 typedef struct {
     uint64_t at;                      /* ms: when the rates were measured */
     uint64_t counted[LAYERS];         /* bytes since then */
-    uint64_t rates[LAYERS];           /* bits per second: an eighth of each is the latest interval, if it rises a quarter */
+    uint64_t rates[LAYERS];           /* bits per second: an eighth of each is the latest interval, if it rises a half */
+    uint64_t latest[LAYERS];          /* of the latest interval alone */
     uint32_t time;                    /* RTP time of the latest keyframe */
     uint64_t keyframe, last_keyframe; /* its bytes so far; those of the one before */
 } rates;
@@ -272,7 +273,8 @@ static void measure(rates *of, uint64_t now) {
     if (passed < RATE_INTERVAL) return;
     for (int i = 0; i < LAYERS; i++) {
         uint64_t rate = of->at ? of->counted[i] * 8000 / passed : 0;
-        unsigned weight = rate > of->rates[i] ? 4 : 8;
+        unsigned weight = rate > of->rates[i] ? 2 : 8;
+        of->latest[i] = rate;
         of->rates[i] = of->rates[i] && rate ? (of->rates[i] * (weight - 1) + rate) / weight : rate;
         of->counted[i] = 0;
     }
@@ -283,6 +285,13 @@ static void measure(rates *of, uint64_t now) {
 uint64_t publisher_rate(const peer *it, int number, int temporal) {
     uint64_t rate = 0;
     for (int i = 0; i <= temporal && i < LAYERS; i++) rate += it->publisher->tracks[number].rates.rates[i];
+    return rate;
+}
+
+/* The same of the latest interval alone. */
+uint64_t publisher_latest_rate(const peer *it, int number) {
+    uint64_t rate = 0;
+    for (int i = 0; i < LAYERS; i++) rate += it->publisher->tracks[number].rates.latest[i];
     return rate;
 }
 

@@ -170,6 +170,7 @@ bool publisher_clock(peer *it, int track, cpay_sender_clock_info *clock);
 source *publisher_source(peer *it, int track);
 void publisher_count(peer *it, int track, const cpay_rtp_info *info, int temporal, bool begins_keyframe);
 uint64_t publisher_rate(const peer *it, int track, int temporal);
+uint64_t publisher_latest_rate(const peer *it, int track);
 uint64_t publisher_keyframe(const peer *it, int track);
 void publisher_stats(peer *it, FILE *to);
 void publisher_free(peer *it);

@@ -245,6 +245,28 @@ def test_steps():
     return figures
 
 
+def test_longer():
+    """The way to a viewer takes 40 ms more from a moment on: that is no queue, and all frames of the large size come again within 6 s."""
+    with Server() as it:
+        it.page("publish=camera&layers")
+        wait_for("both layers", lambda: sum(stream["frames"] > 100 for stream in it.streams()) == 2)
+        viewer = viewer_of(it)
+
+        def gets_all():
+            return it.streams("viewers")[0]["layer"] == "full" and it.streams("viewers")[0]["temporal"] >= 2
+
+        wait_for("large size", gets_all)
+        time.sleep(5)
+        it.network(delay=40)
+        time.sleep(6)
+        before = viewer.frames()
+        require(gets_all(), it.streams("viewers")[0])
+        time.sleep(3)
+        shown, peer = viewer.frames() - before, it.stats()["viewers"][0]
+    require(shown > 45, f"{shown} frames in 3 s")
+    return f"{shown} frames in 3 s, {peer['estimate'] // 1000} kbit/s"
+
+
 def test_reload():
     """A viewer waits for a publisher, stays when its page is loaded again, and comes back for another codec. DELETE ends a call at once."""
     with Server() as it:
@@ -692,7 +714,7 @@ TESTS = {f"{codec}-{loss}": (lambda codec=codec, loss=loss: test_call(codec, los
 TESTS |= {f"firefox-{name}": (lambda words=words: test_firefox(*words)) for name, words in {
     "publishes": (Firefox, Chromium, "VP8", 0), "watches": (Chromium, Firefox, "VP8", 0), "VP8-5": (Firefox, Firefox, "VP8", 5),
     "VP9-2": (Firefox, Firefox, "VP9", 2), "AV1-2": (Firefox, Firefox, "AV1", 2)}.items()}
-TESTS |= {name: globals()[f"test_{name}"] for name in ("refusals", "sessions", "token", "reused", "full", "protect", "disk", "phone", "picture", "reordered", "viewers", "conference", "feedback", "layers", "fits", "narrow", "steps", "reload",
+TESTS |= {name: globals()[f"test_{name}"] for name in ("refusals", "sessions", "token", "reused", "full", "protect", "disk", "phone", "picture", "reordered", "viewers", "conference", "feedback", "layers", "fits", "narrow", "steps", "longer", "reload",
                                                       "left", "restart", "blocked", "taken", "camera", "elsewhere", "aiortc", "damaged", "hostile")}
 
 

@@ -55,6 +55,19 @@ typedef struct {
     int temporal;    /* the highest temporal layer */
 } wishes;
 
+/* Whether the way of the packets became longer: see path.c. Delays are differences of two clocks, in us. */
+typedef struct {
+    uint64_t began;    /* when the window began; 0: not yet */
+    int32_t least;     /* delay in it */
+    bool any, lost;    /* whether packets of it arrived, and whether some were lost */
+    int32_t latest[3]; /* the least delays of the latest windows without losses */
+    unsigned latest_len;
+    int32_t calm_delay; /* while the estimate did not fall */
+    uint64_t calm_estimate;
+    uint64_t restarted; /* when the path began again */
+    uint64_t restarts;
+} longer_way;
+
 /* The path to a viewer. Times are in microseconds. */
 struct viewer_path {
     cpay_path carries;
@@ -76,7 +89,9 @@ struct viewer_path {
     } left[MOST_LEFT];           /* the latest packets that left, by their numbers */
     waiting order[MOST_ORDERED]; /* of video, in a ring: what is left out keeps its place */
     size_t order_first, order_len;
-    bool tails; /* the last packet of a frame leaves twice: the viewer would see its loss with the next frame */
+    bool tails;             /* the last packet of a frame leaves twice: the viewer would see its loss with the next frame */
+    uint16_t shift, latest; /* what is added to the numbers of the path, and the latest one that was written */
+    longer_way way;
     wishes wishes;
     int choice;                   /* the place in the list of choices; -1: none yet */
     uint64_t rates[MOST_CHOICES]; /* of the choices, in bits per second */
