@@ -19,7 +19,7 @@
 //! | [`transport`] | the sending side of that: the numbers and times of sent packets, and what feedback reports about them |
 //! | [`ccfb`] | congestion control feedback of RFC 8888 |
 //! | [`xr`] | extended reports of RFC 3611 that measure the round trip from a receiver |
-//! | [`fec`] | forward error correction by ULPFEC (RFC 5109): packets of FEC, and the packets that they rebuild |
+//! | [`fec`] | forward error correction by ULPFEC (RFC 5109): a receiver that rebuilds lost packets, and packets of FEC |
 //! | [`descriptor`] | the dependency descriptor: which frames a frame of video refers to |
 //! | [`waiting`] | a limit of waiting that follows how late missing packets arrive |
 //! | [`freezes`] | how often and how long a picture stood still, by the rule of the W3C |
@@ -214,7 +214,9 @@ pub mod xr {
 /// Forward error correction by ULPFEC (RFC 5109): packets of FEC, read and written, and the packets that they rebuild.
 pub mod fec {
     #[doc(inline)]
-    pub use crate::fec::{FecFault, FecPacket, FecWriter, PacketStore};
+    pub use crate::fec::{
+        FecFault, FecPacket, FecReceiver, FecSettings, FecWriter, LateIds, PacketStore,
+    };
 
     #[doc(hidden)]
     pub use crate::fec::*;

@@ -25,6 +25,8 @@ SESSION = bytes([0x59, 0, 7, 0, 100, 0, 200, 0x75, 0x30, 200, 0, 0x0c, 10, 100, 
 # Dependency descriptors of calls of Chromium, each with a structure first: VP9 and AV1 in two spatial layers.
 DESCRIPTORS = ("810001800514853abfaaa18f04304302a02a006001001b934515e082704608c0c7870043216511115432768077805980ef80b380 860002 830003",
                "8000018003187aaaf130a0a014d141382304600864222226500ef00b301df01670 830002 8500071a68004020 8300081a201810")
+# A packet of media, and FEC over it and the lost one behind it.
+FEC = bytes([5, 220, 0x10, 0, 3]) + b"abc" + bytes([0x24, 0, 17, 0, 0, 0, 1, 0, 0, 0, 0, 0, 0, 0, 3, 0xc0, 0, 5, 7, 5])
 # Calls of a session: polls, a poll at the next deadline, and a BYE of SSRC 1.
 POLL, DEADLINE, BYE = bytes([0]), bytes([7 << 3]), bytes([10 << 3, 0, 0x80, 1, 1, 0])
 
@@ -87,6 +89,7 @@ def seeds():
         yield "session", data
     for stream in DESCRIPTORS:
         yield "descriptor", b"".join(bytes([len(it)]) + it for it in map(bytes.fromhex, stream.split()))
+    yield "fec", FEC
     yield "buffer", bytes([1, 4, 0x80, 1, 0x80, 3, 0x80, 2, 0, 0, 0, 0])
 
 

@@ -4,6 +4,7 @@
 
 mod buffer;
 mod descriptor;
+mod fec;
 mod formats;
 mod input;
 mod media;
@@ -17,7 +18,7 @@ use std::sync::OnceLock;
 
 type Target = fn(&mut Input);
 
-const TARGETS: [(&str, Target); 10] = [
+const TARGETS: [(&str, Target); 11] = [
     ("depacketize", formats::depacketize),
     ("units", formats::units),
     ("red", formats::red),
@@ -28,6 +29,7 @@ const TARGETS: [(&str, Target); 10] = [
     ("buffer", buffer::buffer),
     ("media", media::media),
     ("descriptor", descriptor::descriptor),
+    ("fec", fec::fec),
 ];
 
 fn target() -> Target {
