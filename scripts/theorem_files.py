@@ -12,7 +12,8 @@ FILES has for each file
 
 Rules for stops. A theorem says nothing if its premise cannot be met, or if its conclusion always holds. So
 
-1. a stop is in no premise, except a function of values, if a run that meets the premise is proved;
+1. a stop is in no premise, except a function of values, if a run that meets the premise is proved, and the contracts of the calls
+   of which a run consists;
 2. a relation is a stop only if it is the contract of a public function, and the statement passes it on as it is; or if it is part
    of a log, while another clause says that each run has a log;
 3. never a stop: which units were sent, that a release is one of them, that a receiver was new, which calls it made, and with which
@@ -24,6 +25,7 @@ from collections import namedtuple
 Words = namedtuple('Words', 'says premises not_said reading')
 BUFFER, DATAGRAMS, FORWARD = 'codec_payload_buffer_runs', 'codec_payload_datagram_runs', 'codec_payload_forward_runs'
 SESSION, SERVER, TIMELY = 'codec_payload_session_runs', 'codec_payload_server_runs', 'codec_payload_timely_runs'
+ANSWERED = 'codec_payload_answered_runs'
 
 RECEIVES = 'codec_payload_receiver.Sessions.ReceivesBytes'
 FOLLOWS = 'codec_payload_stream_edges.Following.Follows'
@@ -35,6 +37,11 @@ NEW_SESSION = 'codec_payload_session.Ports.new_session'
 NEW_DEPACKETIZER = 'codec_payload_codec.Depacketizers.depacketizer_state_for'
 READS = 'codec_payload_rtp.RtpReading.rtp_at'
 DEPACKETIZES = 'codec_payload_codec.Depacketizers.DepacketizerStep'
+SENDS = 'codec_payload_sending.Senders.Sends'
+REFUSES = 'codec_payload_sending.Senders.Refuses'
+KEEPS = 'codec_payload_sending_history.Histories.Keeps'
+RESENDS = 'codec_payload_sending_history.Histories.Resends'
+NEW_HISTORY = 'codec_payload_sending_history.Histories.history_by'
 
 # What each stop is.
 STOPS = {
@@ -48,8 +55,14 @@ STOPS = {
     NEW_DEPACKETIZER: 'the first state of the depacketizer of a codec, or None for a codec without one.',
     READS: 'the RTP packet that these bytes are (RFC 3550, section 5.1), or the fault: the contract of `RtpPacket::parse`.',
     DEPACKETIZES: 'the contract of `Depacketizer::depacketize`: a depacketizer reads one more payload.',
+    SENDS: 'the contract of `Sender::send`: the sender after this sample, and its datagrams.',
+    REFUSES: 'the contract of `Sender::send` for a sample that it refuses.',
+    KEEPS: 'the contract of `History::keep`: the history after this datagram.',
+    RESENDS: 'the contract of `History::resend`: the history after this request, its answer, and the bytes of the retransmission.',
+    NEW_HISTORY: 'the contract of `History::new`: the history with these settings before any datagram, or the setting that is out of range.',
 }
 PASSED_ON = 'the statement says that the receiver makes this step, and passes the step on: it holds for any step in its place.'
+A_CALL = 'the run consists of such calls. Each call has this by its contract, so calls of the library meet this premise whatever the contract says.'
 A_TABLE = 'a function of the codec: a table of first values.'
 OF_BYTES = 'a function of the bytes, proved against a grammar of packets both ways (`reading_follows_the_grammars`). If it read nothing, no datagram could read as its packet.'
 MET = 'a function of the settings, so no two receivers meet it. That a run with such a receiver meets the premises is proved ({}).'
@@ -169,6 +182,33 @@ FILES = {
             'Anything without `max_wait`, or if `max_wait` changes during the run. When a unit is skipped.',
             'DATAGRAMS.txt first; what it explains is only named here. Part 1 is the theorem, part 2 which pops are in time, part 3 the bound.'),
         'parts': [('pops in time', ['PopsInTimeFrom0']), ('the bound', ['ComesBy', 'AllDueBy'])],
+    },
+    'ANSWERED': {
+        'statements': [(ANSWERED, 'AnsweredRuns', 'LostPacketsComeBack', 'lost_packets_come_back')],
+        'after': ['INTIME', 'DATAGRAMS', 'SAFETY', 'COMPLETENESS', 'LOSS'],
+        'stops': {
+            RECEIVES: A_CALL, POPS: A_CALL, ENDS: A_CALL, SENDS: A_CALL, REFUSES: A_CALL, KEEPS: A_CALL, RESENDS: A_CALL, NEW_HISTORY: MET.format('`history_premises_can_be_met`'),
+            READS: OF_BYTES, DEPACKETIZES: 'as in LOSS.txt: the field `logged` says that each run has a log.', NEW_RECEIVER: MET.format('`premises_can_be_met`')},
+        'words': Words(
+            'A sender sends samples as datagrams, and its history keeps them. Any of them are lost on the way to a receiver, or repeated, or reordered. The receiver requests the numbers that it '
+            'misses, by the schedule of `NackSchedule`; the history answers requests; requests and answers may be lost too. If the network, the settings and the polls are as the premises say, '
+            'then the pops return the units of the samples in turn: the first one that was sent, the second one, and so on, each whole, and none is left out (`in_turn`). And a unit whose '
+            'datagrams all come is popped in time (`in_time`): let pops come until None after each delivery and at each deadline. Take a time such that each datagram up to the last one '
+            'of the unit, of those that come, came `max_wait` before it or earlier. A pop returns the unit by that time, or the run ends before it.',
+            'The run consists of calls, each with its answer as its contract says; memory did not run out. Those of DATAGRAMS.txt, of the deliveries of datagrams and retransmissions together; the '
+            'codec does not send picture ids with TL0PICIDX. The history is new, has no `interval`, and the receiver\'s settings name its stream. `WaitsByTime`: the receiver waits by `max_wait` '
+            'alone, without `hold_back`. `KeepsUp`: when a datagram comes, fewer than `limit` less `room` datagrams lie from the first one that was not popped yet up to it. So a run may be as long as it '
+            'likes. `AllowsTries`: k is less than `tries`, the schedule follows as many numbers as the buffer has places, and `first_wait`, k waits between requests, the delay of a request, the delay '
+            'of its answer, and `slack` for each poll are together less than `max_wait`. `IsKind` is about the network: times do not fall; a poll comes at most `slack` after each delivery and '
+            'after each deadline of the schedule; the first datagram that comes is the first one that was sent; at each pop the first unit came whole, or neither its last '
+            'datagram nor a later one came; no `Finish`; and for each datagram, of the first k + 1 requests one arrives within `delay`, before `limit` more datagrams were sent, and its answer arrives '
+            'within `delay`. Values that meet the premises are proved (`answers_can_be_met`), and a test executes their run.',
+            'That a datagram comes of which no later one came: nobody requests it, so no pop returns its unit or a later one. That requests travel as RTCP, which tests do. Anything about RED, sessions or '
+            'forwarders, about a history with an `interval`, or about `hold_back`.',
+            'DATAGRAMS.txt and INTIME.txt first; what they explain is only named here. Part 1 is the theorem, part 2 the run, part 3 the premises, part 4 the schedule, part 5 which numbers are missing. '
+            'Ask of each premise whether you can know it without the receiver.'),
+        'parts': [('the run', ['AnsweredRuns']), ('the premises', ['WaitsByTime', 'KeepsUp', 'AllowsTries', 'AnswersRequests']),
+                  ('the schedule of requests', ['refreshed', 'due_numbers', 'after_due', 'after_answer', 'new_schedule', 'earliest_of']), ('which numbers are missing', ['missing_numbers'])],
     },
     'FORWARDED': {
         'statements': [(FORWARD, 'ForwardReleases', 'ForwardsPackets'), (FORWARD, 'ForwardReleases', 'ReleasesForwarded'), (FORWARD, 'ForwardReleases', 'KeepsPromisesForwarded')],

@@ -85,6 +85,7 @@ fn answers_can_be_met() -> Result<(), Fail> {
     settings.retry = 30;
     settings.longest_retry = 30;
     settings.tries = 2;
+    settings.capacity = 4_096;
     let mut schedule = NackSchedule::new(settings);
     let mut of_stream = receiver(Codec::Opus, |it| it.retransmission = again)?;
     let mut polls = Vec::new();
@@ -104,7 +105,7 @@ fn answers_can_be_met() -> Result<(), Fail> {
             }
             Step::Link(_) => {}
             Step::Poll(now) => {
-                let missing: Vec<u64> = of_stream.missing(1_024).collect();
+                let missing: Vec<u64> = of_stream.missing(4_096).collect();
                 schedule.refresh(Ticks(now), &missing)?;
                 let mut numbers = Vec::new();
                 schedule.take_due(Ticks(now), &mut numbers)?;
