@@ -1,8 +1,11 @@
 //! A receiver of FEC beside a sender that is written after RFC 5109, RFC 2198 and RFC 8285: packets of media in RED with header extensions,
 //! FEC over zeros where libwebrtc's pacer writes late, losses, copies, and any order.
 
-use codec_payload::fec::{FecReceiver, FecSettings, LateIds};
+use codec_payload::fec::{FecReceiver, FecSettings, FecWriter, LateIds};
+use codec_payload::payloads::Payloads;
 use codec_payload::rtp::RtpPacket;
+use codec_payload::stream::{Popped, Receiver, ReceiverSettings};
+use codec_payload::{Codec, CodecDepacketizer, Frequency, Ticks};
 use std::collections::{BTreeMap, BTreeSet};
 
 type Fail = Box<dyn std::error::Error>;
@@ -393,6 +396,64 @@ fn the_first_packet_has_any_number() -> Result<(), Fail> {
             let fec = in_red(base.wrapping_add(2), &fec_of(base, false, &plain));
             assert_eq!(pass(&mut receiver, &fec)?.as_deref(), Some(plain[1 - came]));
         }
+    }
+    Ok(())
+}
+
+/// The whole way: datagrams of Opus, FEC of the writer, one datagram is lost, and the receiver of the stream gets what is rebuilt. All units
+/// come, and no packet is missing in between.
+#[test]
+fn a_lost_packet_reaches_the_receiver_without_a_request() -> Result<(), Fail> {
+    let settings = |fec_type| FecSettings {
+        fec_type,
+        late_ids: LateIds::default(),
+        ..SETTINGS
+    };
+    let sent: Vec<Vec<u8>> = (0..4u16)
+        .map(|n| {
+            packet(
+                0x80,
+                0x80 | MEDIA,
+                n,
+                u32::from(n) * 960,
+                &[],
+                &[n as u8; 20],
+            )
+        })
+        .collect();
+    let all: Vec<&[u8]> = sent.iter().map(Vec::as_slice).collect();
+    let writer = FecWriter {
+        protection: 64,
+        keyframe_protection: 64,
+    };
+    let mut fec = Payloads::new(0, 0)?;
+    writer.write(false, &all, &mut fec)?;
+    assert_eq!(fec.len(), 1);
+    for lost in 0..4 {
+        let mut stream = ReceiverSettings::live_audio(MEDIA, Frequency::FORTY_EIGHT_KHZ);
+        stream.ssrc = Some(SSRC);
+        let mut receiver = Receiver::new(CodecDepacketizer::try_from(Codec::Opus)?, stream)?;
+        let mut rebuilds = FecReceiver::new(settings(ULPFEC))?;
+        for (place, datagram) in all.iter().enumerate() {
+            if place != lost {
+                receiver.receive(Ticks(1), datagram)?;
+                assert_eq!(pass(&mut rebuilds, datagram)?, None);
+            }
+        }
+        let rebuilt = pass(&mut rebuilds, &packet(0x80, ULPFEC, 50, 1, &[], fec.get(0)))?;
+        assert_eq!(rebuilt.as_deref(), Some(all[lost]));
+        receiver.receive(Ticks(2), &rebuilt.ok_or("nothing was rebuilt")?)?;
+        assert_eq!(receiver.missing(10).count(), 0);
+        receiver.finish()?;
+        let mut units = Vec::new();
+        while let Some(popped) = receiver.pop(Ticks(3)) {
+            let Popped::Unit(unit) = popped? else {
+                return Err("no unit".into());
+            };
+            units.push(unit.bytes);
+        }
+        let wanted: Vec<Vec<u8>> = (0..4).map(|n| vec![n; 20]).collect();
+        assert_eq!(units, wanted);
     }
     Ok(())
 }

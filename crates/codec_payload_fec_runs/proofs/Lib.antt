@@ -1,1 +1,2 @@
+pub mod MissingLemmas
 pub mod RunLemmas

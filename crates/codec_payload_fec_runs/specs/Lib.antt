@@ -1,1 +1,2 @@
 pub mod FecRuns
+pub mod Missing

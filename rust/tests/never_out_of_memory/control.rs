@@ -6,7 +6,7 @@ use codec_payload::bandwidth::{
 };
 use codec_payload::ccfb::{CongestionFeedback, PacketMetric, StreamReport, stream_report};
 use codec_payload::congestion::*;
-use codec_payload::fec::{FecPacket, FecWriter, PacketStore};
+use codec_payload::fec::{FecPacket, FecReceiver, FecSettings, FecWriter, LateIds, PacketStore};
 use codec_payload::feedback::{
     FeedbackSource, StreamRequests, TransportReporter, TransportSettings,
 };
@@ -32,6 +32,9 @@ pub const CALLS: [Call; 17] = [
         &[
             "FecPacket::rebuild",
             "FecPacket::write",
+            "FecReceiver::new",
+            "FecReceiver::next_rebuilt",
+            "FecReceiver::receive",
             "FecWriter::write",
             "PacketStore::keep",
             "PacketStore::new",
@@ -412,6 +415,23 @@ fn viewer(size: usize) {
     assert!(path.waiting() == 0);
 }
 
+/// What a receiver of FEC hands out for these packets and this packet of FEC.
+fn received(packets: &[&[u8]], fec: &[u8]) -> Option<Vec<u8>> {
+    let mut receiver = made(FecReceiver::new(FecSettings {
+        ssrc: 7,
+        red_type: 116,
+        fec_type: 117,
+        late_ids: LateIds::default(),
+        bytes: 512 * 65_548,
+    }));
+    for packet in packets {
+        made(receiver.receive(packet));
+    }
+    let header = [0x80, 117, 0, 99, 0, 0, 0, 9, 0, 0, 0, 7];
+    made(receiver.receive(&[&header, fec].concat()));
+    made(receiver.next_rebuilt())
+}
+
 /// Frames of packets of this size, the first of which is lost.
 fn corrected(size: usize) {
     let payload = vec![9; size.min(65_535)];
@@ -438,6 +458,7 @@ fn corrected(size: usize) {
                 assert_eq!(again, fec.get(place));
                 let rebuilt = made(packet.rebuild(7, &store));
                 assert_eq!(rebuilt.is_some(), packet.only_missing(&store) == Some(0));
+                assert_eq!(received(&packets[1..], fec.get(place)), rebuilt);
             }
         }
     }
