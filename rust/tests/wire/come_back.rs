@@ -363,6 +363,26 @@ fn each_third_packet_comes_back() -> Result<(), Fail> {
     Ok(())
 }
 
+/// A run of more packets than the buffer and the history have places.
+#[test]
+fn a_run_longer_than_the_buffer() -> Result<(), Fail> {
+    let mut random = Random::new(3);
+    let samples: Vec<_> = (0..10_000)
+        .map(|index| sample_of(index * 1_800, &[(index / 256) as u8, (index % 256) as u8]))
+        .collect();
+    let case = Case {
+        delay: 30,
+        k: 2,
+        in_vain: 2,
+        max_wait: Case::least_wait(30, 2),
+        stream: Some(AGAIN),
+    };
+    let mut third = |datagram: usize, _: &mut Random| (datagram % 3 != 1).then_some(5);
+    let (steps, popped) = run_of(&case, &samples, &mut random, &mut third)?;
+    assert!(are_all(&popped, &samples));
+    runs_alike(&case, &samples, &steps, &popped)
+}
+
 /// Random networks that lose, delay and reorder first copies, with one to three datagrams in a frame, and `max_wait` as short as the
 /// theorem allows.
 #[test]
