@@ -35,6 +35,9 @@ const FRAMES: usize = 60;
 const RETRY: u64 = 60;
 const FIRST_WAIT: u64 = 10;
 
+/// The units that were popped, each with its time.
+type Pops = Vec<(u64, Vec<u8>)>;
+
 /// What a network does, and what the settings allow.
 struct Case {
     /// A request and an answer take at most this time.
@@ -105,7 +108,7 @@ struct Scene<'a> {
     steps: Vec<HistoryStep>,
     /// How often each number was requested.
     requested: BTreeMap<u16, u32>,
-    popped: Vec<(u64, Vec<u8>)>,
+    popped: Pops,
 }
 
 impl Scene<'_> {
@@ -275,7 +278,7 @@ fn run_of(
     samples: &[ToPayload],
     random: &mut Random,
     loses: &mut dyn FnMut(usize, &mut Random) -> Option<u64>,
-) -> Result<(Vec<HistoryStep>, Vec<(u64, Vec<u8>)>), Fail> {
+) -> Result<(Vec<HistoryStep>, Pops), Fail> {
     let mut settings = NackSettings::live();
     settings.first_wait = FIRST_WAIT;
     settings.retry = RETRY;
