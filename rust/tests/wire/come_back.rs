@@ -35,6 +35,9 @@ const FRAMES: usize = 60;
 const RETRY: u64 = 60;
 const FIRST_WAIT: u64 = 10;
 
+/// The units that were popped, each with its time.
+type Pops = Vec<(u64, Vec<u8>)>;
+
 /// What a network does, and what the settings allow.
 struct Case {
     /// A request and an answer take at most this time.
@@ -105,7 +108,7 @@ struct Scene<'a> {
     steps: Vec<HistoryStep>,
     /// How often each number was requested.
     requested: BTreeMap<u16, u32>,
-    popped: Vec<(u64, Vec<u8>)>,
+    popped: Pops,
 }
 
 impl Scene<'_> {
@@ -275,7 +278,7 @@ fn run_of(
     samples: &[ToPayload],
     random: &mut Random,
     loses: &mut dyn FnMut(usize, &mut Random) -> Option<u64>,
-) -> Result<(Vec<HistoryStep>, Vec<(u64, Vec<u8>)>), Fail> {
+) -> Result<(Vec<HistoryStep>, Pops), Fail> {
     let mut settings = NackSettings::live();
     settings.first_wait = FIRST_WAIT;
     settings.retry = RETRY;
@@ -361,6 +364,26 @@ fn each_third_packet_comes_back() -> Result<(), Fail> {
         runs_alike(&case, &samples, &steps, &popped)?;
     }
     Ok(())
+}
+
+/// A run of more packets than the buffer and the history have places.
+#[test]
+fn a_run_longer_than_the_buffer() -> Result<(), Fail> {
+    let mut random = Random::new(3);
+    let samples: Vec<_> = (0..10_000)
+        .map(|index| sample_of(index * 1_800, &[(index / 256) as u8, (index % 256) as u8]))
+        .collect();
+    let case = Case {
+        delay: 30,
+        k: 2,
+        in_vain: 2,
+        max_wait: Case::least_wait(30, 2),
+        stream: Some(AGAIN),
+    };
+    let mut third = |datagram: usize, _: &mut Random| (datagram % 3 != 1).then_some(5);
+    let (steps, popped) = run_of(&case, &samples, &mut random, &mut third)?;
+    assert!(are_all(&popped, &samples));
+    runs_alike(&case, &samples, &steps, &popped)
 }
 
 /// Random networks that lose, delay and reorder first copies, with one to three datagrams in a frame, and `max_wait` as short as the
