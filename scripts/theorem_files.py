@@ -197,7 +197,7 @@ FILES = {
             'of the unit, of those that come, came `max_wait` before it or earlier. A pop returns the unit by that time, or the run ends before it.',
             'The run consists of calls, each with its answer as its contract says; memory did not run out. Those of DATAGRAMS.txt, of the deliveries of datagrams and retransmissions together; the '
             'codec does not send picture ids with TL0PICIDX. The history is new, has no `interval`, and the receiver\'s settings name its stream. `WaitsByTime`: the receiver waits by `max_wait` '
-            'alone, without `hold_back`. `KeepsUp`: when a datagram comes, fewer than `limit` less `room` datagrams lie from the first one that was not popped yet up to it. So a run may be as long as it '
+            'alone, without `hold_back`. `KeepsUp`: when a datagram comes, at most `limit` less `room` datagrams lie from the first one that was not popped yet up to it. So a run may be as long as it '
             'likes. `AllowsTries`: k is less than `tries`, the schedule follows as many numbers as the buffer has places, and `first_wait`, k waits between requests, the delay of a request, the delay '
             'of its answer, and `slack` for each poll are together less than `max_wait`. `IsKind` is about the network: times do not fall; a poll comes at most `slack` after each delivery and '
             'after each deadline of the schedule; the first datagram that comes is the first one that was sent; at each pop the first unit came whole, or neither its last '
