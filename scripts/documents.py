@@ -51,6 +51,8 @@ LIBRARY = f"{ROOT}/c/out"
 WIDTH = 128
 README_LINES = 170
 README_WORDS = 500
+# Examples in the documentation of the Rust crate, which `cargo test` runs.
+TESTED_BY_CARGO = "rust/src/doc/"
 PICTURE_BYTES = 80_000
 # The pages that say what is proved, and name only what public statements have.
 STATED = [f"docs/proof/{it}.md" for it in ("README", "PROMISES", "FORWARDED", "SESSIONS", "CONTRACTS", "statements/README")]
@@ -624,7 +626,7 @@ def main(words):
                 it.write(wrapped)
         return 0
     quick = words[:1] == ["--quick"]
-    pages = files(".md")
+    pages = [it for it in files(".md") if not it.startswith(TESTED_BY_CARGO)]
     wrong = [
         *links(pages), *named_pages(), *lines(pages), *crate_table(), *versions(), *toolchain(), *additions(), *figures(),
         *pictures(pages), *glossary(), *lemmas(), *cited(), *witnesses(witness_tests()), *counted_lines(), *mutant_results(), *blocks(pages, quick),
