@@ -211,15 +211,17 @@ static void repeat_lost(peer *it, peer *from, const cpay_packet_arrival *packets
  *
  * After a change of route or of the radio cell all packets take longer. To the library that is a queue, until it has forgotten
  * the way before, after 10 to 20 s. But a queue of this viewer becomes shorter once less is sent. So if the estimate fell, and
- * for some windows the delay stays the same without losses, the path begins again, with half of the estimate from before. */
+ * for some windows the delay stays the same with few losses, the path begins again, with half of the estimate from before. */
 
 enum { WINDOW = 500000, SAME = 6000, LONGER = 15000, RESTS = 10000000 }; /* us */
+enum { MOST_LOST = 15 };                                                 /* percent: a full queue loses more */
 
 static void note_delays(longer_way *way, const viewer_path *path, const cpay_packet_arrival *packets, size_t count) {
     for (size_t i = 0; i < count; i++) {
         size_t place = packets[i].number % MOST_LEFT;
         if (path->left[place].number != packets[i].number) continue;
-        way->lost |= !packets[i].arrived;
+        way->count++;
+        way->lost += !packets[i].arrived;
         int32_t delay = (int32_t)(packets[i].time * 250 - path->left[place].at);
         if (packets[i].arrived && (!way->any || delay - way->least < 0)) way->least = delay, way->any = true;
     }
@@ -254,10 +256,11 @@ static void watch_way(peer *it, uint64_t now) {
     viewer_path *path = it->path;
     longer_way *way = &path->way;
     if (now - way->began < WINDOW || !way->any) return;
-    if (way->lost) way->latest_len = 0;
+    bool loses = way->lost * 100 > way->count * MOST_LOST;
+    if (loses) way->latest_len = 0;
     memmove(way->latest + 1, way->latest, 2 * sizeof *way->latest);
     way->latest[0] = way->least;
-    if (!way->lost && way->latest_len < 3) way->latest_len++;
+    if (!loses && way->latest_len < 3) way->latest_len++;
     if (path->state.estimate >= way->calm_estimate * 9 / 10) {
         way->calm_estimate = path->state.estimate;
         way->calm_delay = way->least;
@@ -270,7 +273,8 @@ static void watch_way(peer *it, uint64_t now) {
         way->latest_len = 0;
     }
     way->began = now;
-    way->any = way->lost = false;
+    way->any = false;
+    way->count = way->lost = 0;
 }
 
 /* The feedback in a datagram with the numbers of the path. */

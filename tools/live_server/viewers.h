@@ -57,10 +57,11 @@ typedef struct {
 
 /* Whether the way of the packets became longer: see path.c. Delays are differences of two clocks, in us. */
 typedef struct {
-    uint64_t began;    /* when the window began; 0: not yet */
-    int32_t least;     /* delay in it */
-    bool any, lost;    /* whether packets of it arrived, and whether some were lost */
-    int32_t latest[3]; /* the least delays of the latest windows without losses */
+    uint64_t began;       /* when the window began; 0: not yet */
+    int32_t least;        /* delay in it */
+    bool any;             /* whether packets of it arrived */
+    unsigned count, lost; /* packets of it, and how many were lost */
+    int32_t latest[3];    /* the least delays of the latest windows with few losses */
     unsigned latest_len;
     int32_t calm_delay; /* while the estimate did not fall */
     uint64_t calm_estimate;
