@@ -1983,9 +1983,9 @@ typedef struct {
 /** Reports the names of the stream with this SSRC and payload type. Call it at CPAY_EVENT_BEGUN: so a server that receives a
  * simulcast knows which stream is which before any SSRC was signalled. A stream takes names from the packets that it accepts, under
  * `name_ids` of the settings: of media, of retransmissions, and without media. The latest value of each name is kept; a value
- * without a byte, or of more than 32, is ignored. Senders stop sending names once they know that they arrived, so a stream in
- * another format under the same SSRC can lack them: the earlier stream still has them. CPAY_NONE: there is no such stream. Does not
- * allocate. */
+ * without a byte, or of more than 32, is ignored. Senders stop sending names once they know that they arrived. So a stream begins
+ * with the names of the first other stream of its SSRC, as one in another format that its sender left. CPAY_NONE: there is no such
+ * stream. Does not allocate. */
 CPAY_CHECKED cpay_status cpay_session_names(cpay_session *session, uint32_t ssrc, uint8_t payload_type, cpay_stream_names *names);
 
 /** Replaces the wait limits of the stream with this SSRC and payload type: see cpay_receiver_set_wait_limits. CPAY_NONE: there is

@@ -659,7 +659,8 @@ static void layer(cpay_session *session, uint8_t ssrc, uint16_t number, const ch
     CHECK(arrival.ssrc == ssrc && arrival.status == CPAY_OK && arrival.outcome == CPAY_HELD);
 }
 
-/* Two layers of a simulcast have two RIDs; a stream without names has lengths of 0. */
+/* Two layers of a simulcast have two RIDs; a stream in another format begins with the names of its SSRC, and one without names has
+ * lengths of 0. */
 static void names(void) {
     cpay_session_settings settings;
     cpay_stream_names told = {.mid = "x", .mid_len = 99};
@@ -676,7 +677,9 @@ static void names(void) {
     CHECK(cpay_session_names(&session, 2, VIDEO, &told) == CPAY_OK && told.rid_len == 2 && same(told.rid, "lo", 2));
     CHECK(cpay_session_names(&session, 1, AUDIO, &told) == CPAY_NONE && same(told.rid, "lo", 2));
     opus(&session, 0, 1, 10);
-    CHECK(cpay_session_names(&session, 1, AUDIO, &told) == CPAY_OK && !memcmp(&told, &none, sizeof told));
+    CHECK(cpay_session_names(&session, 1, AUDIO, &told) == CPAY_OK && told.mid_len == 1 && told.mid[0] == 'v' && same(told.rid, "hi", 2));
+    opus(&session, 0, 3, 10);
+    CHECK(cpay_session_names(&session, 3, AUDIO, &told) == CPAY_OK && !memcmp(&told, &none, sizeof told));
     cpay_session_free(&session);
 }
 
