@@ -380,6 +380,9 @@ def rust_examples(crate, folder):
 
 
 def receives(block):
+    """Whether a block receives datagrams. A receiver of FEC alone is beside what the peers send to."""
+    if "FecReceiver" in block.text and "Session" not in block.text:
+        return False
     return block.language in ("rust", "c") and re.search(r"\b(receive|receive_any|cpay_\w+_receive)\(", block.text)
 
 

@@ -24,8 +24,8 @@ CAPTURE = f"{ROOT}/tools/rtp_record/captures/chromium-vp8"
 # What each row of sessions is, its arguments, and the most instructions of a datagram.
 SESSIONS = [
     ("1 stream of Opus", ["streams", "1", "4096", "1"], 2_300),
-    ("1,000 streams of Opus", ["streams", "1000", "5", "1"], 2_400),
-    ("a call of Chromium: audio, video, retransmissions, RTCP", ["call", f"{CAPTURE}.sdp", f"{CAPTURE}.pcap"], 3_100),
+    ("1,000 streams of Opus", ["streams", "1000", "5", "1"], 2_450),
+    ("a call of Chromium: audio, video, retransmissions, RTCP", ["call", f"{CAPTURE}.sdp", f"{CAPTURE}.pcap"], 3_200),
 ]
 CALLS = {"cpay_receiver_receive": "receive", "cpay_receiver_pop": "pop", "cpay_buffer_push": "push", "cpay_buffer_pop": "pop_buffer"}
 
