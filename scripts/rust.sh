@@ -86,11 +86,13 @@ packaged() {
     done
 }
 
-# What hostile packets cost, and packets for a viewer.
+# What hostile packets cost, packets for a viewer, and FEC.
 speed() {
     step cargo build --quiet --release --manifest-path "$root/tools/speed/Cargo.toml"
     ! command -v valgrind >/dev/null || step "$root/tools/measure/rust_speed.py" --hostile
     ! command -v valgrind >/dev/null || step "$root/tools/measure/rust_speed.py" --forward
+    ! command -v valgrind >/dev/null || step "$root/tools/measure/rust_speed.py" --ports
+    ! command -v valgrind >/dev/null || step "$root/tools/measure/rust_speed.py" --fec
 }
 
 # The programs over lines, and the calls of C over the crate, whose tests scripts/targets.sh runs.

@@ -199,7 +199,7 @@ FILES = {
             'codec does not send picture ids with TL0PICIDX. The history is new, has no `interval`, and the receiver\'s settings name its stream. `WaitsByTime`: the receiver waits by `max_wait` '
             'alone, without `hold_back`. `KeepsUp`: when a datagram comes, at most `limit` less `room` datagrams lie from the first one that was not popped yet up to it. So a run may be as long as it '
             'likes. `AllowsTries`: k is less than `tries`, the schedule follows as many numbers as the buffer has places, and `first_wait`, k waits between requests, the delay of a request, the delay '
-            'of its answer, and `slack` for each poll are together less than `max_wait`. `IsKind` is about the network: times do not fall; a poll comes at most `slack` after each delivery and '
+            'of its answer, and `slack` for each poll are together less than `max_wait`. `AllowsAnswers` is about the network: times do not fall; a poll comes at most `slack` after each delivery and '
             'after each deadline of the schedule; the first datagram that comes is the first one that was sent; at each pop the first unit came whole, or neither its last '
             'datagram nor a later one came; no `Finish`; and for each datagram, of the first k + 1 requests one arrives within `delay`, before `limit` more datagrams were sent, and its answer arrives '
             'within `delay`. Values that meet the premises are proved (`answers_can_be_met`), and a test executes their run.',

@@ -18,7 +18,7 @@ must_fail() {
     copy=$(mktemp -d)
     trap 'rm -rf "$copy"' EXIT
     mkdir "$copy/house"
-    (cd "$root" && git ls-files -z --cached --others --exclude-standard crates crates.txt rust rust-c scripts tools/eraser tools/lines tests c/tests | xargs -0 cp --parents -t "$copy/house")
+    (cd "$root" && git ls-files -z --cached --others --exclude-standard crates crates.txt rust rust-c scripts tools/eraser tools/lines tools/rtp_record/captures tests c/tests | xargs -0 cp --parents -t "$copy/house")
     cd "$copy/house"
     git init -q . && git add -A && git -c user.name=try -c user.email=try@localhost commit -qm copy
     nack=crates/codec_payload_feedback_requests/src/nack.rt

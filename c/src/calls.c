@@ -623,6 +623,25 @@ cpay_status cpay_path_state(cpay_path *path, cpay_path_state_info *state) {
     return proved_cpay_path_state(&path->handle, state);
 }
 
+cpay_status proved_cpay_path_estimate(cpay_handle *path, cpay_path_estimate_info *info);
+cpay_status cpay_path_estimate(cpay_path *path, cpay_path_estimate_info *info) {
+    return proved_cpay_path_estimate(&path->handle, info);
+}
+
+cpay_status proved_cpay_path_lost(cpay_handle *path, const uint8_t *rtcp, size_t rtcp_len, bool full, size_t index,
+                                  uint16_t *numbers, size_t numbers_len, size_t *count);
+cpay_status cpay_path_lost(cpay_path *path, const uint8_t *rtcp, size_t rtcp_len, bool full, size_t index, uint16_t *numbers,
+                           size_t numbers_len, size_t *count) {
+    if ((!rtcp && rtcp_len) || (!numbers && numbers_len)) return CPAY_INVALID;
+    return proved_cpay_path_lost(&path->handle, rtcp ? rtcp : (const uint8_t *)nothing, rtcp_len, full, index,
+                                 numbers ? numbers : (uint16_t *)nothing, numbers_len, count);
+}
+
+cpay_status proved_cpay_path_take_back(cpay_handle *path, uint16_t number);
+cpay_status cpay_path_take_back(cpay_path *path, uint16_t number) {
+    return proved_cpay_path_take_back(&path->handle, number);
+}
+
 void proved_cpay_resend_limit_settings_init(cpay_resend_limit_settings *settings);
 void cpay_resend_limit_settings_init(cpay_resend_limit_settings *settings) {
     proved_cpay_resend_limit_settings_init(settings);
@@ -1159,6 +1178,26 @@ cpay_status proved_cpay_temporal_layer(cpay_codec codec, const uint8_t *payload,
 cpay_status cpay_temporal_layer(cpay_codec codec, const uint8_t *payload, size_t payload_len, cpay_temporal_layer_info *layer) {
     if (!payload && payload_len) return CPAY_INVALID;
     return proved_cpay_temporal_layer(codec, payload ? payload : (const uint8_t *)nothing, payload_len, layer);
+}
+
+cpay_status proved_cpay_vp9_spatial_place(const uint8_t *payload, size_t payload_len, cpay_spatial_place_info *place);
+cpay_status cpay_vp9_spatial_place(const uint8_t *payload, size_t payload_len, cpay_spatial_place_info *place) {
+    if (!payload && payload_len) return CPAY_INVALID;
+    return proved_cpay_vp9_spatial_place(payload ? payload : (const uint8_t *)nothing, payload_len, place);
+}
+
+cpay_status proved_cpay_spatial_filter_take(cpay_spatial_filter_state *filter, uint16_t number,
+                                            const cpay_spatial_place_info *place, bool *marker);
+cpay_status cpay_spatial_filter_take(cpay_spatial_filter_state *filter, uint16_t number, const cpay_spatial_place_info *place,
+                                     bool *marker) {
+    return proved_cpay_spatial_filter_take(filter, number, place, marker);
+}
+
+cpay_status proved_cpay_spatial_filter_again(const cpay_spatial_filter_state *filter, uint16_t number,
+                                             const cpay_spatial_place_info *place, bool *marker);
+cpay_status cpay_spatial_filter_again(const cpay_spatial_filter_state *filter, uint16_t number,
+                                      const cpay_spatial_place_info *place, bool *marker) {
+    return proved_cpay_spatial_filter_again(filter, number, place, marker);
 }
 
 uint64_t proved_cpay_extend_number(uint64_t previous, bool has_previous, uint16_t number);

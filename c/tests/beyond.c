@@ -342,6 +342,7 @@ static void rtcp(size_t size) {
 /* A path on which that many packets wait and leave, with feedback about as many, and as many choices of layers. */
 static void paths(size_t size) {
     static cpay_path_choice choices[MOST];
+    static uint16_t numbers[MOST];
     cpay_path_settings settings;
     cpay_path_settings_init(&settings);
     settings.bound = UINT64_MAX;
@@ -351,6 +352,7 @@ static void paths(size_t size) {
     cpay_resend_limit limit = CPAY_INIT;
     cpay_path_leaving leaving = {0};
     cpay_path_order_info order = {0};
+    size_t count = 0;
     MADE(cpay_path_new(&it, 0, &settings));
     MADE(cpay_resend_limit_new(&limit, &limits));
     for (uint32_t i = 0; i < size; i++) {
@@ -368,6 +370,7 @@ static void paths(size_t size) {
     room[at] = room[at + 1] = 0;
     at = (at + 3) / 4 * 4;
     room[2] = (uint8_t)((at / 4 - 1) >> 8), room[3] = (uint8_t)(at / 4 - 1);
+    MADE(cpay_path_lost(&it, room, at, false, 0, numbers, MOST, &count));
     MADE(cpay_path_feedback(&it, UINT64_MAX, 1, room, at, false, 0));
     MADE(cpay_path_choose(&it, UINT64_MAX, choices, size, &order));
     cpay_path_free(&it);

@@ -804,6 +804,28 @@ static void keyframes(uint8_t from_keyframe, const char *marks, const char *deco
 
 /* Pictures of VP8 in the layers 0 1 0 1 .., with both ids (RFC 7741, section 4.2); 1 and 9 refer to the base layer alone (Y), and packet
  * 3 is lost. So 5 and 7 may refer to a lost picture, although nothing is missing in front of them. */
+/* A keyframe of VP9 with two spatial layers, and a picture behind it. The viewer leaves the upper layer after the keyframe. */
+static void spatial_layers(void) {
+    static const uint8_t descriptors[][2] = {{0x2c, 0x00}, {0x2c, 0x03}, {0x6c, 0x00}, {0x6c, 0x03}};
+    static const cpay_status kept[] = {CPAY_OK, CPAY_OK, CPAY_OK, CPAY_NONE};
+    static const bool markers[] = {false, true, true, true};
+    cpay_spatial_filter_state filter = {.wanted = 1};
+    cpay_spatial_place_info place = {.layer = 9};
+    CHECK(cpay_vp9_spatial_place(NULL, 0, &place) == CPAY_NONE && place.layer == 9);
+    CHECK(cpay_vp9_spatial_place(descriptors[0], 1, &place) == CPAY_NONE && place.layer == 9);
+    for (uint16_t i = 0; i < 4; i++) {
+        uint16_t number = (uint16_t)(65534 + i);
+        if (i == 1) filter.wanted = 0;
+        CHECK(!cpay_vp9_spatial_place(descriptors[i], 2, &place));
+        CHECK(place.layer == i % 2 && place.begins && place.ends && place.intra == (i < 2));
+        bool marker = i % 2;
+        CHECK(cpay_spatial_filter_take(&filter, number, &place, &marker) == kept[i] && marker == markers[i]);
+        marker = i % 2;
+        CHECK(cpay_spatial_filter_again(&filter, number, &place, &marker) == kept[i] && marker == markers[i]);
+    }
+    CHECK(filter.kept == 0 && filter.before == 1 && filter.since == 65536 && filter.has_highest && filter.highest == 65537);
+}
+
 static void temporal_layers(void) {
     static const uint8_t key[] = {0x10, 0, 0, 0x9d, 0x01, 0x2a, 0x10, 0, 0x10, 0}, delta[] = {0x11, 0, 0};
     cpay_spec spec = {.codec = CPAY_VP8, .rate = 90000};
@@ -862,6 +884,7 @@ int main(void) {
     missing();
     refused_frame();
     large_unit();
+    spatial_layers();
     temporal_layers();
     keyframes(CPAY_KEYFRAME_MARK, "124567", "dd--dd", "k---k-", 2);
     keyframes(CPAY_KEYFRAME_DROP, "1267", "dddd", "k-k-", 2);

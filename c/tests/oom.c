@@ -334,6 +334,10 @@ static int paths(int *met) {
     }
     for (uint16_t i = 0; i < 8; i++)
         if (cpay_path_pop(&path, 0, &leaving) || leaving.number != i || leaving.packet.id != (i % 2) * 4u + i / 2) return 5;
+    uint16_t numbers[2] = {0};
+    size_t count = 0;
+    AGAIN(status, cpay_path_lost(&path, feedback, sizeof feedback, false, 0, numbers, 2, &count));
+    if (status || count != 2 || numbers[1] != 1) return 10;
     AGAIN(status, cpay_path_feedback(&path, 0, 0, feedback, sizeof feedback, false, 0));
     if (status) return 6;
     refused = false;
@@ -873,7 +877,7 @@ static int too_large(void) {
     TAKES(350, "counter of freezes", cpay_freezes_new(&it.freezes, 1000));
     TAKES(250, "transport reporter", cpay_transport_reporter_new(&it.transport_reporter, &reports, NULL, 0));
     TAKES(100, "list of sent packets", cpay_sent_packets_new(&it.sent_packets, 2048));
-    TAKES(1670, "session", cpay_session_new(&it.session, &port, &format, 1, NULL, 0, NULL, 0));
+    TAKES(1680, "session", cpay_session_new(&it.session, &port, &format, 1, NULL, 0, NULL, 0));
     return bad;
 }
 

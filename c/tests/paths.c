@@ -179,6 +179,63 @@ static void hears(void) {
     cpay_path_free(&path);
 }
 
+/* Each packet that a feedback reports lost is named once. */
+static void names_lost(void) {
+    cpay_path path = path_of(250000);
+    uint8_t bytes[24];
+    uint16_t numbers[3] = {77, 77, 77};
+    size_t count = 9, size = feedback(bytes, 0, false);
+    CHECK(cpay_path_lost(&path, bytes, size, false, 0, numbers, 3, &count) == CPAY_OK && count == 0 && numbers[0] == 77);
+    for (uint16_t i = 0; i < 2; i++)
+        CHECK(pushes(&path, CPAY_PATH_MEDIA, 1000, i) == CPAY_OK && leaves(&path, 0, i, CPAY_PATH_MEDIA, i));
+    CHECK(cpay_path_lost(&path, bytes, size, false, 0, numbers, 1, &count) == CPAY_TOO_SMALL && count == 2 && numbers[0] == 77);
+    CHECK(cpay_path_lost(&path, bytes, size, false, 0, NULL, 0, &count) == CPAY_TOO_SMALL && count == 2);
+    CHECK(cpay_path_lost(&path, bytes, size, false, 0, numbers, 3, &count) == CPAY_OK && count == 2);
+    CHECK(numbers[0] == 0 && numbers[1] == 1 && numbers[2] == 77);
+    CHECK(cpay_path_lost(&path, bytes, size, false, 1, numbers, 3, &count) == CPAY_NONE && count == 2);
+    CHECK(cpay_path_lost(&path, bytes, 23, false, 0, numbers, 3, &count) == CPAY_RTCP_PACKET_TOO_SHORT && count == 2);
+    CHECK(cpay_path_feedback(&path, 100000, 50000, bytes, size, false, 0) == CPAY_OK);
+    CHECK(cpay_path_lost(&path, bytes, size, false, 0, numbers, 3, &count) == CPAY_OK && count == 0);
+    /* of two packets that left the first one arrived */
+    for (uint16_t i = 2; i < 4; i++)
+        CHECK(pushes(&path, CPAY_PATH_MEDIA, 100, i) == CPAY_OK && leaves(&path, 200000, i, CPAY_PATH_MEDIA, i));
+    size = feedback(bytes, 2, true);
+    bytes[20] = 0xa0; /* a vector of 14 symbols of one bit: the first one arrived */
+    bytes[21] = 0;
+    CHECK(cpay_path_lost(&path, bytes, size, false, 0, numbers, 3, &count) == CPAY_OK && count == 1 && numbers[0] == 3);
+    bytes[20] = 0x60;
+    bytes[21] = 2;
+    CHECK(cpay_path_lost(&path, bytes, size, false, 0, numbers, 3, &count) == CPAY_TRANSPORT_RESERVED && count == 1);
+    cpay_path_free(&path);
+}
+
+/* The latest packet is taken back once, and the next one gets its number; not once feedback reported on it. */
+static void takes_back(void) {
+    cpay_path path = path_of(250000);
+    uint8_t bytes[24];
+    CHECK(cpay_path_take_back(&path, 65535) == CPAY_NONE && cpay_path_take_back(&path, 0) == CPAY_NONE);
+    for (uint16_t i = 0; i < 4; i++) CHECK(pushes(&path, CPAY_PATH_AUDIO, 100, i) == CPAY_OK);
+    CHECK(leaves(&path, 0, 0, CPAY_PATH_AUDIO, 0) && leaves(&path, 0, 1, CPAY_PATH_AUDIO, 1));
+    CHECK(cpay_path_take_back(&path, 0) == CPAY_NONE && cpay_path_take_back(&path, 1) == CPAY_OK);
+    CHECK(cpay_path_take_back(&path, 1) == CPAY_NONE && leaves(&path, 0, 2, CPAY_PATH_AUDIO, 1));
+    CHECK(cpay_path_feedback(&path, 100000, 50000, bytes, feedback(bytes, 0, true), false, 0) == CPAY_OK);
+    CHECK(cpay_path_take_back(&path, 1) == CPAY_NONE && leaves(&path, 100000, 3, CPAY_PATH_AUDIO, 2));
+    cpay_path_free(&path);
+}
+
+/* What a new path knows, and one whose trial is under way: to twice the estimate, since the next choice wants more. */
+static void knows(void) {
+    static const cpay_path_choice choices[2] = {{.rate = 100000}, {.rate = 4000000}};
+    cpay_path path = path_of(250000);
+    cpay_path_estimate_info info = {.standing = 7, .has_trial = true, .is_draining = true};
+    cpay_path_order_info order = {0};
+    CHECK(cpay_path_estimate(&path, &info) == CPAY_OK && info.estimate == 800000 && info.carries == 800000);
+    CHECK(info.standing == 0 && info.usual_losses == 0 && info.trial_rate == 0 && !info.has_trial && !info.is_draining);
+    CHECK(cpay_path_choose(&path, 10000, choices, 2, &order) == CPAY_OK);
+    CHECK(cpay_path_estimate(&path, &info) == CPAY_OK && info.has_trial && info.trial_rate == 1600000);
+    cpay_path_free(&path);
+}
+
 /* The highest choice whose rate, and 5 percent if it is above the current one, is within the estimate. */
 static void chooses(void) {
     static const cpay_path_choice choices[3] = {{.rate = 100000}, {.rate = 400000}, {.rate = 900000, .begin = 1000000}};
@@ -205,6 +262,8 @@ static void handles(void) {
     cpay_path_leaving leaving = {.number = 7};
     cpay_path_order_info order = {.choice = 7};
     cpay_path_state_info state = {.choice = 7};
+    cpay_path_estimate_info info = {.estimate = 7};
+    size_t count = 7;
     cpay_resend_answer answer = CPAY_RESEND_SHARE;
     uint64_t at = 7;
     uint8_t bytes[24];
@@ -222,6 +281,9 @@ static void handles(void) {
         CHECK(cpay_path_feedback(&it.path, 0, 0, bytes, size, false, 0) == status);
         CHECK(cpay_path_choose(&it.path, 0, NULL, 0, &order) == status && order.choice == 7);
         CHECK(cpay_path_state(&it.path, &state) == status && state.choice == 7);
+        CHECK(cpay_path_estimate(&it.path, &info) == status && info.estimate == 7);
+        CHECK(cpay_path_lost(&it.path, bytes, size, false, 0, NULL, 0, &count) == status && count == 7);
+        CHECK(cpay_path_take_back(&it.path, 0) == status);
     }
     cpay_path_free(&it.path);
     for (int kind = 0; kind < 2; kind++) {
@@ -272,6 +334,9 @@ int main(void) {
     queues();
     resends();
     hears();
+    names_lost();
+    takes_back();
+    knows();
     chooses();
     handles();
     hostile();

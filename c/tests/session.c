@@ -208,6 +208,13 @@ static void losses(void) {
     CHECK(cpay_session_set_wait_limits(&session, 1, AUDIO, &limits) == CPAY_OK && deadline(&session) == 50);
     CHECK(happens(&session, 49, ".") && happens(&session, 50, "U1:5 ."));
     CHECK(counts_of(&session).unassociated == 1);
+    /* Number 4 was lost, so its retransmission is late. A copy of it is a probe, and one of number 5; number 5 itself is late again. */
+    cpay_session_stream stream = {.probes = 99};
+    CHECK(sent(&session, 60, RTX, 9, 4, "\0\4\4", 3).outcome == CPAY_LATE && cpay_session_stream_at(&session, 0, &stream) == CPAY_OK);
+    CHECK(stream.probes == 0 && stream.counts.late == 1);
+    CHECK(sent(&session, 60, RTX, 9, 5, "\0\4\4", 3).outcome == CPAY_LATE && sent(&session, 60, RTX, 9, 6, "\0\5\5", 3).outcome == CPAY_LATE);
+    CHECK(sent(&session, 60, AUDIO, 1, 5, "\5", 1).outcome == CPAY_LATE && cpay_session_stream_at(&session, 0, &stream) == CPAY_OK);
+    CHECK(stream.probes == 2 && stream.counts.late == 2 && stream.counts.duplicates == 0);
     cpay_session_free(&session);
 }
 

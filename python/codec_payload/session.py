@@ -115,7 +115,8 @@ class SessionCounts:
 
 @dataclass(frozen=True)
 class Stream:
-    """A stream of a session. `round_trip` is in ticks of your clock."""
+    """A stream of a session. `round_trip` is in ticks of your clock. `probes` are retransmissions of packets that came before: `counts`
+    leaves them out."""
 
     ssrc: int
     payload_type: int
@@ -126,6 +127,7 @@ class Stream:
     numbers_requested: int
     keyframes_requested: int
     counts: ReceiverCounts
+    probes: int
 
 
 _KINDS = {int(it): it for it in EventKind}
@@ -265,7 +267,7 @@ class Session(Handle):
             while (status := lib.cpay_session_stream_at(self._at, len(found), info)) == lib.CPAY_OK:
                 found.append(Stream(info.ssrc, info.payload_type, Stage(info.stage), info.taken, info.bytes,
                                     info.round_trip if info.has_round_trip else None, info.numbers_requested,
-                                    info.keyframes_requested, read(ReceiverCounts, info.counts)))
+                                    info.keyframes_requested, read(ReceiverCounts, info.counts), info.probes))
         if status != lib.CPAY_NONE:
             check(status)
         return found

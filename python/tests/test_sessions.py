@@ -55,6 +55,7 @@ def test_feedback():
     assert [number & 0xFFFF for number in session.missing(7, 96)] == [2] and session.missing(8, 96) == []
     assert EventKind.REPORT in kinds(session, 5_000)
     assert session.streams()[0].numbers_requested == 1
+    assert session.streams()[0].probes == 0
 
 
 def test_bye_and_telephone_events():

@@ -9,6 +9,8 @@
 #![allow(clippy::missing_safety_doc, clippy::too_many_arguments)]
 
 use crate::calls::layers::TemporalLayerInfo;
+use crate::calls::spatial::SpatialFilterState;
+use crate::calls::spatial::SpatialPlaceInfo;
 use crate::handle::extension_ids::ExtensionIds;
 use crate::handle::extension_values::ExtensionValues;
 use crate::handle::extra::Extra;
@@ -57,6 +59,7 @@ use crate::path::path::PathLeaving;
 use crate::path::path::PathOrderInfo;
 use crate::path::path::PathPacket;
 use crate::path::path::PathStateInfo;
+use crate::path::path_report::PathEstimateInfo;
 use crate::path::path_settings::PathSettings;
 use crate::path::path_settings::ResendLimitSettings;
 use crate::receiving::adaptive_wait::AdaptiveWaitSettings;
@@ -1075,6 +1078,40 @@ unsafe extern "C" fn cpay_resend_limit_ask(
     crate::calls::path_limit::cpay_resend_limit_ask(handle, now, number, size, round_trip, answer)
 }
 
+#[unsafe(export_name = "proved_cpay_path_lost")]
+unsafe extern "C" fn cpay_path_lost(
+    handle: &mut PathHandle,
+    rtcp: *const u8,
+    rtcp_len: usize,
+    full: bool,
+    index: usize,
+    numbers: *mut u16,
+    numbers_len: usize,
+    count: &mut usize,
+) -> u32 {
+    crate::calls::path_report::cpay_path_lost(
+        handle,
+        unsafe { from_raw_parts(rtcp, rtcp_len) },
+        full,
+        index,
+        unsafe { from_raw_parts_mut(numbers, numbers_len) },
+        count,
+    )
+}
+
+#[unsafe(export_name = "proved_cpay_path_take_back")]
+unsafe extern "C" fn cpay_path_take_back(handle: &mut PathHandle, number: u16) -> u32 {
+    crate::calls::path_report::cpay_path_take_back(handle, number)
+}
+
+#[unsafe(export_name = "proved_cpay_path_estimate")]
+unsafe extern "C" fn cpay_path_estimate(
+    handle: &mut PathHandle,
+    info: &mut PathEstimateInfo,
+) -> u32 {
+    crate::calls::path_report::cpay_path_estimate(handle, info)
+}
+
 #[unsafe(export_name = "proved_cpay_receiver_new")]
 unsafe extern "C" fn cpay_receiver_new(
     handle: &mut Handle,
@@ -1874,6 +1911,38 @@ unsafe extern "C" fn cpay_session_set_round_trip(
         payload_type,
         round_trip,
     )
+}
+
+#[unsafe(export_name = "proved_cpay_vp9_spatial_place")]
+unsafe extern "C" fn cpay_vp9_spatial_place(
+    payload: *const u8,
+    payload_len: usize,
+    place: &mut SpatialPlaceInfo,
+) -> u32 {
+    crate::calls::spatial::cpay_vp9_spatial_place(
+        unsafe { from_raw_parts(payload, payload_len) },
+        place,
+    )
+}
+
+#[unsafe(export_name = "proved_cpay_spatial_filter_take")]
+unsafe extern "C" fn cpay_spatial_filter_take(
+    filter: &mut SpatialFilterState,
+    number: u16,
+    place: &SpatialPlaceInfo,
+    marker: &mut bool,
+) -> u32 {
+    crate::calls::spatial::cpay_spatial_filter_take(filter, number, place, marker)
+}
+
+#[unsafe(export_name = "proved_cpay_spatial_filter_again")]
+unsafe extern "C" fn cpay_spatial_filter_again(
+    filter: &SpatialFilterState,
+    number: u16,
+    place: &SpatialPlaceInfo,
+    marker: &mut bool,
+) -> u32 {
+    crate::calls::spatial::cpay_spatial_filter_again(filter, number, place, marker)
 }
 
 #[unsafe(export_name = "proved_cpay_tele_read")]

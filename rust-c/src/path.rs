@@ -13,6 +13,8 @@ pub mod handle;
 pub mod limit;
 pub mod object;
 pub mod path;
+pub mod path_report;
 pub mod path_settings;
+pub mod rate_offer;
 pub mod status;
 pub mod writing;

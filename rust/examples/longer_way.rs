@@ -1,14 +1,15 @@
-//! A path that becomes longer, and a publisher that pauses: what the estimate of a `ViewerPath` does then, though the link carries 3
-//! Mbit/s all the time and no packet is lost.
+//! A path that becomes longer, a publisher that pauses, and feedback that is lost: what the estimate of a `ViewerPath` does then,
+//! though the link carries 3 Mbit/s all the time.
 //!
 //! ```sh
 //! cargo run --release --example longer_way
 //! ```
 //!
-//! - **Longer**: from 20 s on each packet takes 40 ms more, as after a change of route or of the radio cell. Until the least delay of 10
-//!   to 20 s is forgotten, that looks like a queue.
-//! - **Pause**: from 20 to 30 s nothing is sent, so nothing is reported. `choose` halves the estimate each 700 ms, unless the caller
-//!   leaves it out while nothing left since the last feedback.
+//! - **Longer**: from 20 s on each packet takes 40 ms more, as after a change of route or of the radio cell. First that looks like a
+//!   queue.
+//! - **Longer, 5 % lost**: the same, and each twentieth packet is lost from the beginning on.
+//! - **Pause**: from 20 to 30 s nothing is sent, so nothing is reported.
+//! - **No reports**: from 20 to 24 s all packets arrive, and no feedback does.
 //!
 //! The columns are the estimate in kbit/s.
 
@@ -23,18 +24,27 @@ const DELAY: u64 = 20_000;
 const LINK: u64 = 3_000_000;
 const PACKET: u32 = 1_000;
 
-/// What happens from `CHANGE` on.
+/// What happens from `CHANGE` on. Times are in seconds, if their names say nothing else.
+#[derive(Clone, Copy)]
 struct Run {
-    longer_by: u64,
+    longer_by_micros: u64,
     pause: u64,
-    /// Whether `choose` is called while nothing left since the last feedback.
-    always: bool,
+    no_reports: u64,
+    /// Of so many packets one is lost. 0: none.
+    loses_one_of: usize,
 }
+
+const CALM: Run = Run {
+    longer_by_micros: 0,
+    pause: 0,
+    no_reports: 0,
+    loses_one_of: 0,
+};
 
 struct World {
     path: ViewerPath,
-    /// When each packet arrived at the viewer.
-    arrived: Vec<u64>,
+    /// When each packet arrived at the viewer, and whether it did.
+    arrived: Vec<(u64, bool)>,
     reported: usize,
     free_at: u64,
 }
@@ -58,25 +68,26 @@ impl World {
         }
     }
 
-    fn send(&mut self, now: u64, way: u64) {
+    fn send(&mut self, now: u64, way: u64, loses_one_of: usize) {
         while let Some(leaving) = self.path.pop(Ticks(now)) {
             let begin = self.free_at.max(now);
             self.free_at = begin + u64::from(leaving.packet.size) * 8_000_000 / LINK;
-            self.arrived.push(self.free_at + way);
+            let is_lost = loses_one_of > 0 && self.arrived.len() % loses_one_of == 1;
+            self.arrived.push((self.free_at + way, !is_lost));
         }
     }
 
     /// Reports what arrived, each 50 ms. A report takes 20 ms.
-    fn report(&mut self, now: u64) {
+    fn report(&mut self, now: u64, is_heard: bool) {
         let known = self
             .arrived
-            .partition_point(|arrived| arrived + DELAY <= now);
+            .partition_point(|arrived| arrived.0 + DELAY <= now);
         if known <= self.reported {
             return;
         }
         let statuses = self.arrived[self.reported..known]
             .iter()
-            .map(|arrived| Some((arrived / 250) as u32))
+            .map(|&(at, has_arrived)| has_arrived.then_some((at / 250) as u32))
             .collect();
         let feedback = TransportFeedback {
             base: self.reported as u16,
@@ -85,6 +96,9 @@ impl World {
             statuses,
         };
         self.reported = known;
+        if !is_heard {
+            return;
+        }
         self.path
             .feedback(Ticks(now), 2 * DELAY, &feedback)
             .unwrap();
@@ -103,18 +117,18 @@ fn run(run: &Run) -> Vec<u64> {
     for now in 0..SECONDS * 1_000 {
         let micros = now * 1_000;
         let changed = now >= CHANGE * 1_000;
-        let pauses = changed && now < (CHANGE + run.pause) * 1_000;
-        let is_silent = world.reported == world.arrived.len();
-        if now % 10 == 0 && (run.always || !is_silent) {
+        let within = |seconds: u64| changed && now < (CHANGE + seconds) * 1_000;
+        if now % 10 == 0 {
             world.choose(micros);
         }
         // 600 kbit/s.
-        if now * 75 / 1_000 != (now + 1) * 75 / 1_000 && !pauses {
+        if now * 75 / 1_000 != (now + 1) * 75 / 1_000 && !within(run.pause) {
             world.push(PacedKind::Media);
         }
-        world.send(micros, DELAY + if changed { run.longer_by } else { 0 });
+        let more = if changed { run.longer_by_micros } else { 0 };
+        world.send(micros, DELAY + more, run.loses_one_of);
         if now % 50 == 0 {
-            world.report(micros);
+            world.report(micros, !within(run.no_reports));
         }
         if now % 1_000 == 999 {
             estimates.push(world.path.estimate() / 1_000);
@@ -123,31 +137,36 @@ fn run(run: &Run) -> Vec<u64> {
     estimates
 }
 
-fn main() {
-    let longer = run(&Run {
-        longer_by: 40_000,
-        pause: 0,
-        always: true,
-    });
-    let paused = run(&Run {
-        longer_by: 0,
-        pause: 10,
-        always: true,
-    });
-    let left_out = run(&Run {
-        longer_by: 0,
-        pause: 10,
-        always: false,
-    });
-    println!("| second | longer by 40 ms | pause | pause, without `choose` |\n|---|---|---|---|");
-    for second in [19, 20, 21, 22, 25, 29, 30, 31, 34, 39, 44, 49, 59] {
-        println!(
-            "| {second} | {} | {} | {} |",
-            longer[second], paused[second], left_out[second]
-        );
+pub fn main() {
+    let longer = Run {
+        longer_by_micros: 40_000,
+        ..CALM
+    };
+    let runs = [
+        longer,
+        Run {
+            loses_one_of: 20,
+            ..longer
+        },
+        Run { pause: 10, ..CALM },
+        Run {
+            no_reports: 4,
+            ..CALM
+        },
+    ];
+    let all = runs.map(|it| run(&it));
+    println!(
+        "| second | longer by 40 ms | longer, 5 % lost | pause | no reports |\n|---|---|---|---|---|"
+    );
+    for second in [19, 20, 21, 22, 23, 24, 25, 26, 27, 29, 34, 39, 49, 59] {
+        let cells = all.each_ref().map(|it| it[second].to_string());
+        println!("| {second} | {} |", cells.join(" | "));
     }
-    // All come back in the end.
-    for estimates in [longer, paused, left_out] {
-        assert!(estimates[59] >= 900);
+    let [longer, lossy, paused, unheard] = all;
+    for (estimates, is_back) in [(&longer, 25), (&lossy, 25), (&unheard, 27)] {
+        assert!(estimates[19] >= 900 && estimates[is_back..].iter().all(|it| *it >= 900));
     }
+    // 3 s after the change at least half is there again, and a pause changes nothing.
+    assert!(longer[22] >= 486 && lossy[22] >= 486);
+    assert!(paused[19] >= 900 && paused[19..].iter().all(|it| *it == paused[19]));
 }

@@ -1,22 +1,25 @@
 //! The receiving side of a call: all streams of a port, by the session description of the sender. The session requests missing
 //! packets and keyframes, and reports losses each second and arrivals each 100 ms; this program sends its packets, and prints a line for
-//! each event.
+//! each event. If the description has `red` and `ulpfec` of video, a port with FEC stands in front of the session.
 //! `tools/chromium/chromium_peer.py` runs it against Chromium:
 //!
 //! ```sh
-//! cargo run --example port_peer OFFER ADDRESS [INTERVAL]
+//! cargo run --example port_peer OFFER ADDRESS [INTERVAL] [GRAIN]
 //! ```
 //!
 //! - OFFER is a file with the session description (SDP); ADDRESS receives the feedback. Without them the program says so.
-//! - INTERVAL is the number of milliseconds between two reports of arrivals.
+//! - INTERVAL is the number of milliseconds between two reports of arrivals, GRAIN that of microseconds to which their times are
+//!   rounded down, to see what a coarse clock costs.
 //! - The first line is `port` and its number. An empty datagram ends the program.
 //! - The SSRCs of retransmissions are those of the offer (`sdp::session_settings`). For a sender that joins later, a program with
 //!   signalling passes `sdp::pairs` of the new offer to `Session::add_pair`; this one has none.
 
+use codec_payload::fec::FecPort;
 use codec_payload::{Clock, Event, FeedbackSettings, Session, Ticks, sdp};
 use std::error::Error;
 use std::io::{self, ErrorKind, Write};
 use std::net::{Ipv4Addr, UdpSocket};
+use std::num::NonZero;
 use std::time::{Duration, Instant};
 
 type Failure = Box<dyn Error>;
@@ -27,25 +30,51 @@ const LONGEST_SLEEP: Duration = Duration::from_millis(100);
 
 /// All streams of a port, and what is sent back.
 struct Peer {
+    /// The port with FEC, if the description has FEC, and memory for a packet.
+    port: Option<FecPort>,
+    plain: Vec<u8>,
     session: Session,
     /// When the clock of arrivals began.
     start: Instant,
+    /// Times of arrival are multiples of it, in microseconds.
+    grain: u64,
     /// The packets of RTCP to send.
     feedback: Vec<Vec<u8>>,
 }
 
 impl Peer {
-    fn new(offer: &str, interval: Option<u64>) -> Result<Peer, Failure> {
-        let mut settings = sdp::session_settings(&sdp::read(offer)?)?;
+    fn new(offer: &str, interval: Option<u64>, grain: u64) -> Result<Peer, Failure> {
+        let media = sdp::read(offer)?;
+        let mut settings = sdp::session_settings(&media)?;
+        let port = sdp::fec_port_settings(&media)?.map(FecPort::new);
         settings.feedback = Some(FeedbackSettings::live(OWN_SSRC, b"me@host".to_vec()));
         if let (Some(transport), Some(interval)) = (&mut settings.transport, interval) {
             transport.interval = interval;
         }
         Ok(Peer {
+            port: port.transpose()?,
+            plain: Vec::new(),
             session: Session::new(settings)?,
             start: Instant::now(),
+            grain,
             feedback: Vec::new(),
         })
+    }
+
+    /// Passes a datagram, and what is rebuilt, to the session.
+    fn receive(&mut self, now: Ticks, datagram: &[u8]) -> Result<(), Failure> {
+        let micros = self.start.elapsed().as_micros() as u64 / self.grain * self.grain;
+        let Some(port) = &mut self.port else {
+            self.session.receive_at(now, micros, datagram)?;
+            return Ok(());
+        };
+        let passed = port.receive(datagram, &mut self.plain)?;
+        let bytes = passed.bytes(datagram, &self.plain);
+        self.session.receive_at(now, micros, bytes)?;
+        while let Some(packet) = port.next_rebuilt()? {
+            self.session.receive_at(now, micros, &packet)?;
+        }
+        Ok(())
     }
 
     /// Prints the events that are due, and keeps the feedback.
@@ -110,9 +139,7 @@ fn receive_all(peer: &mut Peer, socket: &UdpSocket, clock: &Clock) -> Result<boo
         match socket.recv(&mut datagram) {
             Ok(0) => return Ok(false),
             Ok(size) => {
-                let micros = peer.start.elapsed().as_micros() as u64;
-                peer.session
-                    .receive_at(clock.now(), micros, &datagram[..size])?;
+                peer.receive(clock.now(), &datagram[..size])?;
             }
             Err(why) if matches!(why.kind(), ErrorKind::WouldBlock | ErrorKind::TimedOut) => {
                 return Ok(true);
@@ -126,13 +153,13 @@ fn receive_all(peer: &mut Peer, socket: &UdpSocket, clock: &Clock) -> Result<boo
 }
 
 /// Receives until an empty datagram arrives.
-fn run(offer: &str, address: &str, interval: Option<u64>) -> Result<(), Failure> {
+fn run(offer: &str, address: &str, interval: Option<u64>, grain: u64) -> Result<(), Failure> {
     let socket = UdpSocket::bind((Ipv4Addr::LOCALHOST, 0))?;
     let mut out = io::stdout().lock();
     writeln!(out, "port {}", socket.local_addr()?.port())?;
     out.flush()?;
     let clock = Clock::new();
-    let mut peer = Peer::new(offer, interval)?;
+    let mut peer = Peer::new(offer, interval, grain)?;
     while receive_all(&mut peer, &socket, &clock)? {
         peer.poll(clock.now(), &mut out)?;
         for feedback in peer.feedback.drain(..) {
@@ -141,6 +168,9 @@ fn run(offer: &str, address: &str, interval: Option<u64>) -> Result<(), Failure>
     }
     peer.session.finish(clock.now());
     peer.poll(clock.now(), &mut out)?;
+    if let Some(port) = &peer.port {
+        writeln!(out, "fec {:?}", port.counts())?;
+    }
     writeln!(out, "counts {:?}", peer.session.counts())?;
     Ok(())
 }
@@ -148,9 +178,12 @@ fn run(offer: &str, address: &str, interval: Option<u64>) -> Result<(), Failure>
 fn main() -> Result<(), Failure> {
     let words: Vec<String> = std::env::args().skip(1).collect();
     let [offer, address, more @ ..] = &words[..] else {
-        println!("port_peer OFFER ADDRESS [INTERVAL]: see tools/chromium/chromium_peer.py");
+        println!("port_peer OFFER ADDRESS [INTERVAL] [GRAIN]: see tools/chromium/chromium_peer.py");
         return Ok(());
     };
     let interval = more.first().map(|word| word.parse()).transpose()?;
-    run(&std::fs::read_to_string(offer)?, address, interval)
+    let grain = more
+        .get(1)
+        .map_or(Ok(1), |word| word.parse::<NonZero<u64>>().map(NonZero::get))?;
+    run(&std::fs::read_to_string(offer)?, address, interval, grain)
 }

@@ -573,8 +573,8 @@ fn main() -> Done {
         println!(
             "{loss} %: {shown} of {FRAMES} frames shown, {switches} switches, {freezes} freezes, {frozen} ms frozen"
         );
-        // At least 95 of 100 frames, and at most 0.6 s frozen, with losses 3 s.
-        let most = if loss > 0 { 3_000 } else { 600 };
+        // At least 95 of 100 frames, and at most 0.6 s frozen, with losses 3.5 s.
+        let most = if loss > 0 { 3_500 } else { 600 };
         assert!(switches == 4 && shown as u64 * 100 >= 95 * FRAMES && frozen <= most);
     }
     Ok(())

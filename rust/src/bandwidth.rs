@@ -15,6 +15,8 @@ pub mod estimator;
 #[doc(hidden)]
 pub mod losses;
 #[doc(hidden)]
+pub mod offer;
+#[doc(hidden)]
 pub mod pacer;
 #[doc(hidden)]
 pub mod path;
@@ -22,6 +24,8 @@ pub mod path;
 pub mod rate;
 #[doc(hidden)]
 pub mod resends;
+#[doc(hidden)]
+pub mod steady;
 
 #[doc(inline)]
 pub use arrivals::Arrivals;
@@ -39,13 +43,19 @@ pub use estimator::{BandwidthEstimator, PacketFate, PacketOutcome};
 pub use losses::Losses;
 
 #[doc(inline)]
+pub use offer::{OfferSettings, RateOffer};
+
+#[doc(inline)]
 pub use pacer::{PacedKind, PacedPacket, Pacer, PacerError, PacerSettings};
 
 #[doc(inline)]
-pub use path::{Leaving, PathOrder, PathSettings, ViewerPath};
+pub use path::{Leaving, PathOrder, PathSettings, PathStatistics, ViewerPath};
 
 #[doc(inline)]
 pub use rate::{PathRate, Trial};
 
 #[doc(inline)]
 pub use resends::{ResendLimit, ResendRefused, ResendSettings};
+
+#[doc(inline)]
+pub use steady::Steady;

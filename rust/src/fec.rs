@@ -4,18 +4,36 @@
 //! packets.
 
 #[doc(hidden)]
+pub mod cleared;
+#[doc(hidden)]
 pub mod content;
 #[doc(hidden)]
+pub mod fec_port;
+#[doc(hidden)]
 pub mod fec_receiver;
+#[doc(hidden)]
+pub mod fec_sender;
+#[doc(hidden)]
+pub mod fec_stream;
+#[doc(hidden)]
+pub mod held_frame;
 #[doc(hidden)]
 pub mod late;
 
 #[doc(hidden)]
 pub mod packet;
 #[doc(hidden)]
+pub mod plain;
+#[doc(hidden)]
+pub mod port_settings;
+#[doc(hidden)]
 pub mod rebuilding;
 #[doc(hidden)]
+pub mod red_packets;
+#[doc(hidden)]
 pub mod store;
+#[doc(hidden)]
+pub mod stream_numbers;
 mod strings;
 #[doc(hidden)]
 pub mod writing;
@@ -24,13 +42,28 @@ pub mod writing;
 pub use content::FecSettings;
 
 #[doc(inline)]
+pub use fec_port::FecPort;
+
+#[doc(inline)]
 pub use fec_receiver::FecReceiver;
+
+#[doc(inline)]
+pub use fec_sender::{FecSendError, FecSender, FecSenderError, FecSenderSettings};
+
+#[doc(inline)]
+pub use fec_stream::FecCounts;
 
 #[doc(inline)]
 pub use late::LateIds;
 
 #[doc(inline)]
 pub use packet::{FecFault, FecPacket};
+
+#[doc(inline)]
+pub use plain::Passed;
+
+#[doc(inline)]
+pub use port_settings::{FecPortSettings, FecPortSettingsError, RetransmissionType};
 
 #[doc(inline)]
 pub use store::PacketStore;

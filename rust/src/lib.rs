@@ -191,6 +191,8 @@ pub mod sender;
 #[doc(hidden)]
 pub mod session;
 #[doc(hidden)]
+pub mod spatial;
+#[doc(hidden)]
 pub mod stream;
 #[doc(hidden)]
 pub mod stream_edges;

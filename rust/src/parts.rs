@@ -19,12 +19,13 @@
 //! | [`transport`] | the sending side of that: the numbers and times of sent packets, and what feedback reports about them |
 //! | [`ccfb`] | congestion control feedback of RFC 8888 |
 //! | [`xr`] | extended reports of RFC 3611 that measure the round trip from a receiver |
-//! | [`fec`] | forward error correction by ULPFEC (RFC 5109): a receiver that rebuilds lost packets, and packets of FEC |
+//! | [`fec`] | forward error correction by ULPFEC (RFC 5109): a port in front of a session, a receiver that rebuilds lost packets, and packets of FEC |
 //! | [`descriptor`] | the dependency descriptor: which frames a frame of video refers to |
 //! | [`waiting`] | a limit of waiting that follows how late missing packets arrive |
 //! | [`freezes`] | how often and how long a picture stood still, by the rule of the W3C |
 //! | [`bandwidth`] | when packets leave for a viewer, how much may be retransmitted, which layers it gets, and the rate of its path |
 //! | [`layers`] | whether a keyframe begins in a payload, and its temporal layer |
+//! | [`spatial`] | which packets a viewer gets that does not want the upper spatial layers |
 //! | [`edges`] | where pictures of video begin and end, and the numbers between them, which carry no media |
 //! | [`stream_edges`] | the same for a receiver: lost padding is neither requested nor waited for |
 //! | [`media`] | what frames say: keyframe, size, duration; OBUs, superframes, `av1C`, the Opus header |
@@ -211,11 +212,14 @@ pub mod xr {
     pub use crate::xr::*;
 }
 
-/// Forward error correction by ULPFEC (RFC 5109): packets of FEC, read and written, and the packets that they rebuild.
+/// Forward error correction by ULPFEC (RFC 5109): a port in front of a session; packets of FEC, read and written, and the packets that
+/// they rebuild.
 pub mod fec {
     #[doc(inline)]
     pub use crate::fec::{
-        FecFault, FecPacket, FecReceiver, FecSettings, FecWriter, LateIds, PacketStore,
+        FecCounts, FecFault, FecPacket, FecPort, FecPortSettings, FecPortSettingsError,
+        FecReceiver, FecSendError, FecSender, FecSenderError, FecSenderSettings, FecSettings,
+        FecWriter, LateIds, PacketStore, Passed, RetransmissionType,
     };
 
     #[doc(hidden)]
@@ -261,14 +265,23 @@ pub mod layers {
     pub use crate::layers::*;
 }
 
+/// Spatial layers of one stream: which packets a viewer gets that does not want the upper ones.
+pub mod spatial {
+    #[doc(inline)]
+    pub use crate::spatial::{SpatialFilter, SpatialPlace, vp9_place};
+
+    #[doc(hidden)]
+    pub use crate::spatial::*;
+}
+
 /// When packets leave for a viewer, by a rate, how much may be retransmitted, which layers it gets, and the rate of its path.
 pub mod bandwidth {
     #[doc(inline)]
     pub use crate::bandwidth::{
         Arrivals, BandwidthEstimator, Delays, LayerChoice, LayerChooser, LayerSettings, Leaving,
-        Losses, PacedKind, PacedPacket, Pacer, PacerError, PacerSettings, PacketFate,
-        PacketOutcome, PathOrder, PathRate, PathSettings, ResendLimit, ResendRefused,
-        ResendSettings, Trial, ViewerPath, choose, trial_rate,
+        Losses, OfferSettings, PacedKind, PacedPacket, Pacer, PacerError, PacerSettings,
+        PacketFate, PacketOutcome, PathOrder, PathRate, PathSettings, PathStatistics, RateOffer,
+        ResendLimit, ResendRefused, ResendSettings, Steady, Trial, ViewerPath, choose, trial_rate,
     };
 
     #[doc(hidden)]

@@ -27,11 +27,13 @@
 //! # }
 //! ```
 
+mod fec;
 mod port;
 mod section;
 mod text;
 mod transport;
 
+pub use fec::fec_port_settings;
 pub use port::{MAX_PAIRS, SessionError, pairs, session_settings};
 pub use transport::{Direction, Fingerprint, Group, Layer, Msid, Rid, Setup, Transport, groups};
 

@@ -24,6 +24,7 @@ mod named;
 #[doc(hidden)]
 pub mod names;
 mod pairs;
+mod probes;
 mod renegotiation;
 mod reporter;
 #[doc(hidden)]

@@ -1,30 +1,17 @@
 //! ULPFEC. The example is that of RFC 5109, section 10.1. The other packets of FEC are made by a model that is written after sections 7
 //! and 8, bit by bit.
 
+mod random;
+
 use codec_payload::fec::{FecFault, FecPacket, FecWriter, PacketStore};
 use codec_payload::payloads::Payloads;
 use codec_payload::rtp::RtpPacket;
+use random::Dice;
 
 type Fail = Box<dyn std::error::Error>;
 
-/// A generator of numbers (xorshift).
-struct Random(u64);
-
-impl Random {
-    fn next(&mut self) -> u64 {
-        self.0 ^= self.0 << 13;
-        self.0 ^= self.0 >> 7;
-        self.0 ^= self.0 << 17;
-        self.0
-    }
-
-    fn below(&mut self, end: u64) -> u64 {
-        self.next() % end
-    }
-
-    fn bytes(&mut self, count: u64) -> Vec<u8> {
-        (0..count).map(|_| (self.next() >> 32) as u8).collect()
-    }
+fn bytes_of(random: &mut Dice, count: u64) -> Vec<u8> {
+    (0..count).map(|_| random.below(256) as u8).collect()
 }
 
 /// An RTP packet without CSRCs, extension and padding.
@@ -45,15 +32,15 @@ fn plain(
 }
 
 /// A random packet: with CSRCs, an extension and padding, or without.
-fn packet(random: &mut Random, number: u16, ssrc: u32) -> Vec<u8> {
+fn packet(random: &mut Dice, number: u16, ssrc: u32) -> Vec<u8> {
     let (csrcs, extension, padding) = (random.below(4), random.below(3), random.below(6));
     let size = random.below(60);
-    let mut payload = random.bytes(csrcs * 4);
+    let mut payload = bytes_of(random, csrcs * 4);
     if extension > 0 {
         payload.extend([0xbe, 0xde, 0, extension as u8]);
-        payload.extend(random.bytes(extension * 4));
+        payload.extend(bytes_of(random, extension * 4));
     }
-    payload.extend(random.bytes(size));
+    payload.extend(bytes_of(random, size));
     if padding > 0 {
         payload.extend(vec![0; padding as usize - 1]);
         payload.push(padding as u8);
@@ -62,7 +49,7 @@ fn packet(random: &mut Random, number: u16, ssrc: u32) -> Vec<u8> {
         random.below(2) == 1,
         random.below(128) as u8,
         number,
-        random.next() as u32,
+        random.below(1 << 31) as u32,
         ssrc,
         &payload,
     );
@@ -136,12 +123,12 @@ fn payloads(out: &Payloads) -> Vec<Vec<u8>> {
 
 /// Packets A to D of the example. Its payloads are not given: they are any bytes.
 fn example() -> [Vec<u8>; 4] {
-    let mut random = Random(5109);
+    let mut random = Dice(5109);
     [
-        plain(true, 11, 8, 3, 2, &random.bytes(200)),
-        plain(false, 18, 9, 5, 2, &random.bytes(140)),
-        plain(true, 11, 10, 7, 2, &random.bytes(100)),
-        plain(false, 18, 11, 9, 2, &random.bytes(340)),
+        plain(true, 11, 8, 3, 2, &bytes_of(&mut random, 200)),
+        plain(false, 18, 9, 5, 2, &bytes_of(&mut random, 140)),
+        plain(true, 11, 10, 7, 2, &bytes_of(&mut random, 100)),
+        plain(false, 18, 11, 9, 2, &bytes_of(&mut random, 340)),
     ]
 }
 
@@ -219,12 +206,12 @@ fn each_fault_has_its_name() {
 /// Any packets, either mask, any order, and any number of losses.
 #[test]
 fn a_lost_packet_is_rebuilt_byte_for_byte() -> Result<(), Fail> {
-    let mut random = Random(0x5eed);
+    let mut random = Dice(0x5eed);
     let mut rebuilt = 0;
     for _ in 0..3_000 {
         let (base, ssrc, long) = (
-            random.next() as u16,
-            random.next() as u32,
+            random.below(65_536) as u16,
+            random.below(1 << 31) as u32,
             random.below(2) == 1,
         );
         let places = if long { 48 } else { 16 };
@@ -297,12 +284,12 @@ fn written(protection: u8, packets: &[&[u8]]) -> Vec<Vec<u8>> {
 
 #[test]
 fn the_writer_writes_the_packets_of_the_model() -> Result<(), Fail> {
-    let mut random = Random(0xfec);
+    let mut random = Dice(0xfec);
     let mut out = Payloads::new(20, 10)?;
     let (mut longest, mut gaps) = (0, 0);
     for _ in 0..600 {
-        let protection = random.next() as u8;
-        let mut number = random.next() as u16;
+        let protection = random.below(256) as u8;
+        let mut number = random.below(65_536) as u16;
         let packets: Vec<Vec<u8>> = (0..random.below(120))
             .map(|_| {
                 let gap = random.below(20) == 0;
@@ -328,17 +315,17 @@ fn the_writer_writes_the_packets_of_the_model() -> Result<(), Fail> {
 
 #[test]
 fn what_is_lost_is_rebuilt_from_fec_of_the_writer() -> Result<(), Fail> {
-    let mut random = Random(0xabcd);
+    let mut random = Dice(0xabcd);
     let (mut lost_count, mut rebuilt) = (0, 0);
     let mut out = Payloads::new(0, 0)?;
     for round in 0..400u32 {
-        let first = random.next() as u16;
+        let first = random.below(65_536) as u16;
         let packets: Vec<Vec<u8>> = (0..1 + random.below(70) as u16)
             .map(|i| packet(&mut random, first.wrapping_add(i), round))
             .collect();
         let all: Vec<&[u8]> = packets.iter().map(Vec::as_slice).collect();
         FecWriter {
-            protection: random.next() as u8,
+            protection: random.below(256) as u8,
             keyframe_protection: 0,
         }
         .write(false, &all, &mut out)?;
@@ -361,13 +348,13 @@ fn what_is_lost_is_rebuilt_from_fec_of_the_writer() -> Result<(), Fail> {
     Ok(())
 }
 
-/// Random bytes, whole masks, lengths beyond the end: nothing panics, and what is rebuilt is an RTP packet of the stream.
+/// Dice bytes, whole masks, lengths beyond the end: nothing panics, and what is rebuilt is an RTP packet of the stream.
 #[test]
 fn hostile_bytes_rebuild_rtp_packets_or_nothing() -> Result<(), Fail> {
-    let mut random = Random(0xbad);
+    let mut random = Dice(0xbad);
     let mut rebuilt = 0;
     for _ in 0..2_000 {
-        let base = random.next() as u16;
+        let base = random.below(65_536) as u16;
         let came: Vec<u16> = (0..48).filter(|_| random.below(20) > 0).collect();
         let packets: Vec<Vec<u8>> = came
             .iter()
@@ -376,7 +363,7 @@ fn hostile_bytes_rebuild_rtp_packets_or_nothing() -> Result<(), Fail> {
         let all: Vec<&[u8]> = packets.iter().map(Vec::as_slice).collect();
         let store = store_of(&all)?;
         let size = random.below(200);
-        let mut bytes = random.bytes(18 + size);
+        let mut bytes = bytes_of(&mut random, 18 + size);
         bytes[0] &= 0x7f;
         bytes[2..4].copy_from_slice(&base.to_be_bytes());
         if random.below(2) == 0 {

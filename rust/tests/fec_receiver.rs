@@ -1,11 +1,14 @@
 //! A receiver of FEC beside a sender that is written after RFC 5109, RFC 2198 and RFC 8285: packets of media in RED with header extensions,
 //! FEC over zeros where libwebrtc's pacer writes late, losses, copies, and any order.
 
+mod random;
+
 use codec_payload::fec::{FecReceiver, FecSettings, FecWriter, LateIds};
 use codec_payload::payloads::Payloads;
 use codec_payload::rtp::RtpPacket;
 use codec_payload::stream::{Popped, Receiver, ReceiverSettings};
 use codec_payload::{Codec, CodecDepacketizer, Frequency, Ticks};
+use random::Dice;
 use std::collections::{BTreeMap, BTreeSet};
 
 type Fail = Box<dyn std::error::Error>;
@@ -31,24 +34,8 @@ const SETTINGS: FecSettings = FecSettings {
     bytes: 512 * 1_536,
 };
 
-/// A generator of numbers (xorshift).
-struct Random(u64);
-
-impl Random {
-    fn next(&mut self) -> u64 {
-        self.0 ^= self.0 << 13;
-        self.0 ^= self.0 >> 7;
-        self.0 ^= self.0 << 17;
-        self.0
-    }
-
-    fn below(&mut self, end: u64) -> u64 {
-        self.next() % end
-    }
-
-    fn bytes(&mut self, count: u64) -> Vec<u8> {
-        (0..count).map(|_| (self.next() >> 32) as u8).collect()
-    }
+fn bytes_of(random: &mut Dice, count: u64) -> Vec<u8> {
+    (0..count).map(|_| random.below(256) as u8).collect()
 }
 
 /// A packet of media: as FEC protects it, and as it leaves.
@@ -58,7 +45,7 @@ struct Sent {
 }
 
 /// The elements of a header extension: id, value, and from which byte on the pacer writes.
-fn elements(random: &mut Random) -> Vec<(u8, Vec<u8>, Option<usize>)> {
+fn elements(random: &mut Dice) -> Vec<(u8, Vec<u8>, Option<usize>)> {
     let all = [
         (3, 2, Some(0)),
         (2, 3, Some(0)),
@@ -70,7 +57,7 @@ fn elements(random: &mut Random) -> Vec<(u8, Vec<u8>, Option<usize>)> {
     let mut chosen = Vec::new();
     for (id, len, late) in all {
         if random.below(2) == 0 {
-            chosen.push((id, random.bytes(len), late));
+            chosen.push((id, bytes_of(random, len), late));
         }
     }
     if chosen.len() > 1 && random.below(2) == 0 {
@@ -123,9 +110,9 @@ fn packet(
     out
 }
 
-fn media(random: &mut Random, number: u16, largest: u64) -> Sent {
+fn media(random: &mut Dice, number: u16, largest: u64) -> Sent {
     let values = elements(random);
-    let (long, gaps) = (random.below(3) == 0, random.next());
+    let (long, gaps) = (random.below(3) == 0, random.below(1 << 31));
     let written: Vec<(u8, Vec<u8>)> = values
         .iter()
         .map(|(id, value, _)| (*id, value.clone()))
@@ -150,9 +137,9 @@ fn media(random: &mut Random, number: u16, largest: u64) -> Sent {
     };
     let first = 0x80 | (u8::from(!values.is_empty()) << 4);
     let marker = (random.below(2) as u8) << 7;
-    let time = random.next() as u32;
+    let time = random.below(1 << 31) as u32;
     let size = random.below(largest);
-    let payload = random.bytes(size);
+    let payload = bytes_of(random, size);
     let mut in_block = vec![MEDIA];
     in_block.extend(&payload);
     Sent {
@@ -211,10 +198,10 @@ fn number_of(packet: &[u8]) -> u16 {
 
 #[test]
 fn each_rebuilt_packet_was_sent_whatever_is_lost_repeated_or_late() -> Result<(), Fail> {
-    let mut random = Random(0x0fec_5109);
+    let mut random = Dice(0x0fec_5109);
     let mut receiver = FecReceiver::new(SETTINGS)?;
     let (mut rebuilt, mut lost_count) = (0, 0);
-    let mut number = random.next() as u16;
+    let mut number = random.below(65_536) as u16;
     let mut sent: BTreeMap<u16, Vec<u8>> = BTreeMap::new();
     let mut order: Vec<u16> = Vec::new();
     for _frame in 0..40_000 {
@@ -276,10 +263,10 @@ fn each_rebuilt_packet_was_sent_whatever_is_lost_repeated_or_late() -> Result<()
 /// A lost packet is rebuilt at once when the last of the group's packets or the FEC comes, in any order.
 #[test]
 fn the_only_lost_packet_of_a_group_is_rebuilt_at_once() -> Result<(), Fail> {
-    let mut random = Random(7);
+    let mut random = Dice(7);
     for round in 0..2_000 {
         let mut receiver = FecReceiver::new(SETTINGS)?;
-        let (base, long) = (random.next() as u16, round % 2 == 0);
+        let (base, long) = (random.below(65_536) as u16, round % 2 == 0);
         let count = 1 + random.below(if long { 48 } else { 16 }) as u16;
         let group: Vec<Sent> = (0..count)
             .map(|i| media(&mut random, base.wrapping_add(i), 100))
@@ -304,7 +291,7 @@ fn the_only_lost_packet_of_a_group_is_rebuilt_at_once() -> Result<(), Fail> {
 /// A rebuilt packet helps another packet of FEC, at the next datagram.
 #[test]
 fn a_rebuilt_packet_helps_to_rebuild_another_one() -> Result<(), Fail> {
-    let mut random = Random(8);
+    let mut random = Dice(8);
     let group: Vec<Sent> = (0..4).map(|i| media(&mut random, 10 + i, 100)).collect();
     let plain: Vec<&[u8]> = group.iter().map(|one| one.plain.as_slice()).collect();
     let mut receiver = FecReceiver::new(SETTINGS)?;
@@ -329,7 +316,7 @@ fn a_rebuilt_packet_helps_to_rebuild_another_one() -> Result<(), Fail> {
 /// Other SSRCs, RED with several blocks, RTCP, rubbish: nothing is kept.
 #[test]
 fn datagrams_that_are_not_of_the_stream_change_nothing() -> Result<(), Fail> {
-    let mut random = Random(9);
+    let mut random = Dice(9);
     let group: Vec<Sent> = (0..3).map(|i| media(&mut random, 10 + i, 100)).collect();
     let plain: Vec<&[u8]> = group.iter().map(|one| one.plain.as_slice()).collect();
     let mut other = group[1].plain.clone();
@@ -358,7 +345,7 @@ fn datagrams_that_are_not_of_the_stream_change_nothing() -> Result<(), Fail> {
 
 #[test]
 fn a_restart_and_a_jump_of_the_numbers_forget_all() -> Result<(), Fail> {
-    let mut random = Random(10);
+    let mut random = Dice(10);
     for jump in [false, true] {
         let group: Vec<Sent> = (0..3).map(|i| media(&mut random, 10 + i, 100)).collect();
         let plain: Vec<&[u8]> = group.iter().map(|one| one.plain.as_slice()).collect();
@@ -384,7 +371,7 @@ fn a_restart_and_a_jump_of_the_numbers_forget_all() -> Result<(), Fail> {
 /// The first packet that comes is any one of its group, and its number any number: also right after a turn of the numbers.
 #[test]
 fn the_first_packet_has_any_number() -> Result<(), Fail> {
-    let mut random = Random(12);
+    let mut random = Dice(12);
     for base in [0u16, 1, 32_767, 32_768, 65_534, 65_535] {
         for came in 0..2usize {
             let group: Vec<Sent> = (0..2u16)
@@ -462,7 +449,7 @@ fn a_lost_packet_reaches_the_receiver_without_a_request() -> Result<(), Fail> {
 /// of each packet of FEC at most one is rebuilt.
 #[test]
 fn hostile_fec_is_bounded() -> Result<(), Fail> {
-    let mut random = Random(11);
+    let mut random = Dice(11);
     let mut receiver = FecReceiver::new(SETTINGS)?;
     let (mut rebuilt, mut fecs) = (BTreeSet::new(), 0u32);
     for i in 0..10_000u16 {
@@ -471,7 +458,7 @@ fn hostile_fec_is_bounded() -> Result<(), Fail> {
             receiver.receive(&media(&mut random, number, 100).in_red)?;
         }
         let size = random.below(200);
-        let mut bytes = random.bytes(18 + size);
+        let mut bytes = bytes_of(&mut random, 18 + size);
         bytes[0] = (bytes[0] & 0x3f) | 0x40;
         bytes[2..4].copy_from_slice(&i.to_be_bytes());
         if random.below(2) == 0 {

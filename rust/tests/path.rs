@@ -4,7 +4,8 @@ mod random;
 
 use codec_payload::Ticks;
 use codec_payload::bandwidth::{
-    Arrivals, BandwidthEstimator, Delays, Losses, PacketFate, PacketOutcome, PathRate, Trial,
+    Arrivals, BandwidthEstimator, Delays, Losses, PacketFate, PacketOutcome, PathRate, Steady,
+    Trial,
 };
 use random::Dice;
 
@@ -112,11 +113,10 @@ fn the_rate_of_arrivals() {
             };
             let rate = rate_to(window.len() - 1);
             assert_eq!(arrivals.rate(), rate);
-            let busy = window
-                .iter()
-                .position(|it| !it.2)
-                .unwrap_or(window.len() - 1);
-            assert_eq!(arrivals.link_rate(), rate_to(busy).or(rate));
+            // Since the first one of those that waited, without a gap up to the latest.
+            let waited = window.iter().take_while(|it| it.2).count();
+            let busy = waited.checked_sub(1).and_then(rate_to);
+            assert_eq!(arrivals.link_rate(), busy.or(rate));
         }
     }
 }
@@ -210,6 +210,9 @@ fn the_estimate_of_lies() {
                 })
                 .collect();
             let round_trip = [0, 40_000, u64::MAX][dice.below(3) as usize];
+            if dice.below(2) == 0 {
+                estimator.sent(Ticks(now.saturating_sub(dice.below(1 << 21))));
+            }
             estimator.feedback(Ticks(now), round_trip, &fates);
             let wanted = [0, u64::MAX, dice.below(1 << 25)][dice.below(3) as usize];
             estimator.tick(Ticks(now), dice.below(1 << 25), wanted);
@@ -266,13 +269,96 @@ fn the_estimate_by_another_clock() {
     assert!(changes > 100, "{changes}");
 }
 
+/// Silence counts from the first packet that left since the last feedback. Once feedback says that packets arrive, half of the
+/// rate is there again, and a trial of all of it is due at once.
 #[test]
 fn silence_halves_the_rate() {
     let mut estimator = BandwidthEstimator::new(Ticks(0), 800_000, 150_000, 5_000_000);
-    estimator.tick(Ticks(700_000), 0, 0);
+    // Nothing left: nothing is waited for.
+    estimator.tick(Ticks(60_000_000), 0, 0);
     assert_eq!(estimator.estimate(), 800_000);
-    for (number, rate) in [400_000, 200_000, 150_000, 150_000].into_iter().enumerate() {
-        estimator.tick(Ticks(700_001 * (number as u64 + 1)), 0, 0);
+    let mut now = 60_000_000;
+    for rate in [400_000, 200_000, 150_000, 150_000] {
+        for later in [0, 350_000, 700_000] {
+            estimator.sent(Ticks(now + later));
+        }
+        let before = estimator.estimate();
+        estimator.tick(Ticks(now + 700_000), 0, 0);
+        assert_eq!(estimator.estimate(), before);
+        now += 700_001;
+        estimator.tick(Ticks(now), 0, 0);
+        assert_eq!(estimator.estimate(), rate);
+        // A pause changes nothing more.
+        now += 10_000_000;
+        estimator.tick(Ticks(now), 0, 0);
         assert_eq!(estimator.estimate(), rate);
     }
+    let fate = |number: u64| PacketFate {
+        sent: now + number * 10_000,
+        size: 1_000,
+        outcome: PacketOutcome::Arrived(now + number * 10_000 + 20_000),
+    };
+    let fates: Vec<PacketFate> = (0..5).map(fate).collect();
+    now += 70_000;
+    estimator.feedback(Ticks(now), 40_000, &fates);
+    assert_eq!((estimator.estimate(), estimator.trial()), (400_000, None));
+    estimator.tick(Ticks(now), 300_000, 900_000);
+    assert_eq!(estimator.trial().map(|it| it.to), Some(800_000));
+}
+
+/// Three windows of 300 ms are the same if their leasts differ by at most 6 ms; beside a plain list of windows.
+#[test]
+fn what_stays_the_same() {
+    let mut dice = Dice(17);
+    let mut count = 0;
+    for _ in 0..2_000 {
+        let begin = dice.below(1 << 40);
+        let mut steady = Steady::begin(begin);
+        let (mut now, level, spread) = (begin, dice.below(40_000), 1 + dice.below(12_000));
+        let (mut window, mut since) = (Vec::new(), begin);
+        // The leasts of windows that are the same as all of this list.
+        let mut same: Vec<u64> = Vec::new();
+        steady.note(begin.saturating_sub(1), 0);
+        for _ in 0..60 {
+            now += dice.below(120_000);
+            let standing = level + dice.below(spread);
+            steady.note(now, standing);
+            window.push(standing);
+            if now - since >= 300_000 {
+                let least = *window.iter().min().unwrap();
+                window.clear();
+                since = now;
+                same.push(least);
+                let (low, high) = (same.iter().min().unwrap(), same.iter().max().unwrap());
+                if high - low > 6_000 {
+                    same = vec![least];
+                }
+            }
+            let is_steady = same.len() >= 3 && *same.iter().min().unwrap() > 15_000;
+            assert_eq!(steady.is_steady(), is_steady);
+            count += u32::from(is_steady);
+        }
+    }
+    assert!(count > 1_000, "{count}");
+}
+
+/// After `follow` nothing stands. A shorter delay counts again, a longer one stands.
+#[test]
+fn a_longer_way_is_followed() {
+    let mut delays = Delays::new();
+    let mut sent = 0;
+    let mut note = |delays: &mut Delays, delay: u64| {
+        for _ in 0..40 {
+            sent += 10_000;
+            delays.note(sent, sent + delay);
+        }
+        delays.standing()
+    };
+    assert_eq!(note(&mut delays, 20_000), 0);
+    assert_eq!(note(&mut delays, 60_000), 40_000);
+    delays.follow();
+    assert_eq!(delays.standing(), 0);
+    assert_eq!(note(&mut delays, 75_000), 15_000);
+    assert_eq!(note(&mut delays, 50_000), 0);
+    assert_eq!(note(&mut delays, 60_000), 10_000);
 }

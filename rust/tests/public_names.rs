@@ -53,7 +53,7 @@ fn each_name_is_documented_once() {
         root.len()
     );
     assert!(
-        (150..=260).contains(&parts.len()),
+        (150..=280).contains(&parts.len()),
         "{} names in parts",
         parts.len()
     );

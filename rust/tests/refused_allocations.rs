@@ -9,6 +9,8 @@ mod choice;
 mod datagrams;
 #[path = "refused/descriptors.rs"]
 mod descriptors;
+#[path = "refused/fec.rs"]
+mod fec;
 #[path = "refused/runs.rs"]
 mod runs;
 

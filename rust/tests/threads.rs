@@ -1,7 +1,7 @@
 //! The objects of the library can be moved to another thread, and shared by reference.
 
 use codec_payload::bandwidth::{BandwidthEstimator, LayerChooser, Pacer, ResendLimit, ViewerPath};
-use codec_payload::fec::FecWriter;
+use codec_payload::fec::{FecSender, FecWriter};
 use codec_payload::feedback::TransportReporter;
 use codec_payload::forward::Forwarder;
 use codec_payload::freezes::Freezes;
@@ -23,6 +23,7 @@ fn objects_are_send_and_sync() {
     is_free::<CodecDepacketizer>();
     is_free::<CodecPacketizer>();
     is_free::<DepacketizingBuffer>();
+    is_free::<FecSender>();
     is_free::<FecWriter>();
     is_free::<Forwarder>();
     is_free::<Freezes>();

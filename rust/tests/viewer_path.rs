@@ -96,7 +96,7 @@ fn run(dice: &mut Dice, steps: u64) {
     let choices = [100_000, 300_000, 900_000].map(|rate| LayerChoice { rate, begin: 0 });
     for step in 0..steps {
         now += dice.below(3_000);
-        match dice.below(9) {
+        match dice.below(10) {
             0..=2 => {
                 let packet = PacedPacket {
                     kind: KINDS[dice.below(4) as usize],
@@ -112,6 +112,7 @@ fn run(dice: &mut Dice, steps: u64) {
                 if let Some(packet) = packet {
                     assert_eq!(leaving.unwrap().number, parts.left.len() as u16);
                     parts.left.push((now, packet.size));
+                    parts.estimator.sent(Ticks(now));
                     if packet.kind != PacedKind::Resent {
                         parts.limit.sent(Ticks(now), packet.size);
                     }
@@ -128,8 +129,10 @@ fn run(dice: &mut Dice, steps: u64) {
                 let carries = parts.estimator.carries();
                 let before = parts.chooser.current();
                 let choice = parts.chooser.choose(Ticks(now), carries, &choices);
-                let wanted =
-                    parts.chooser.wanted(1, &choices) * parts.estimator.estimate() / carries.max(1);
+                let steps = parts.estimator.steps();
+                assert!(steps == 1 || steps == 2);
+                let wanted = parts.chooser.wanted(steps, &choices) * parts.estimator.estimate()
+                    / carries.max(1);
                 parts
                     .estimator
                     .tick(Ticks(now), choices[choice].rate, wanted);
@@ -142,6 +145,16 @@ fn run(dice: &mut Dice, steps: u64) {
                     assert_eq!(order.padding, 0);
                 }
                 assert!(order.padding <= 6_000);
+            }
+            8 if dice.below(5) == 0 => {
+                // The latest packet, or another one.
+                let count = parts.left.len() as u64;
+                let number = count.wrapping_sub(1 + dice.below(2)) as u16;
+                let goes = parts.told < parts.left.len() && number == (count - 1) as u16;
+                assert_eq!(path.take_back(number), goes);
+                if goes {
+                    parts.left.pop();
+                }
             }
             _ => {
                 if parts.left.is_empty() {
@@ -161,6 +174,16 @@ fn run(dice: &mut Dice, steps: u64) {
                         _ => None,
                     })
                     .collect();
+                let mut lost = Vec::new();
+                path.append_lost(&feedback(base, &arrived), &mut lost)
+                    .unwrap();
+                let open = parts.told.max(parts.left.len().saturating_sub(REMEMBERED));
+                let numbers: Vec<u16> = (base..parts.left.len())
+                    .zip(&arrived)
+                    .filter(|(index, at)| *index >= open && at.is_none())
+                    .map(|(index, _)| index as u16)
+                    .collect();
+                assert_eq!(lost, numbers);
                 let fates = parts.fates(base, &arrived);
                 if !fates.is_empty() {
                     parts.estimator.feedback(Ticks(now), 50_000, &fates);
@@ -173,6 +196,19 @@ fn run(dice: &mut Dice, steps: u64) {
         assert_eq!(path.waiting(), parts.pacer.waiting());
         assert_eq!(path.next_deadline(), parts.pacer.next_deadline());
         assert_eq!(path.choice(), parts.chooser.current());
+        let statistics = path.statistics();
+        assert_eq!(
+            (statistics.estimate, statistics.carries),
+            (parts.estimator.estimate(), parts.estimator.carries())
+        );
+        assert_eq!(
+            (statistics.standing, statistics.usual_losses),
+            (parts.estimator.standing(), parts.estimator.usual_losses())
+        );
+        assert_eq!(
+            (statistics.trial, statistics.is_draining),
+            (parts.estimator.trial(), parts.estimator.is_draining())
+        );
     }
 }
 

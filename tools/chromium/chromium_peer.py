@@ -18,7 +18,8 @@ requests missing packets and keyframes, which Chromium answers. A call fails unl
   buffer skips it. The calls `temporal` and `simulcast` have such frames: Chromium gives each size of a simulcast three layers;
 - in the calls that end in `-layers`, 99 % of the released frames all of whose references were decodable are decodable, also after a
   gap. They are by the dependency descriptor, which the answer accepts, or in `vp9-plain-layers` by the P_DIFFs of VP9 without it;
-- at least half of the lost packets of video arrive again, and a keyframe is requested if a gap stays;
+- at least half of the lost packets of video arrive again, and a keyframe is requested if a gap stays; in the call `fec`, whose
+  video has forward error correction (ULPFEC), some packets are rebuilt instead, and a row says how many;
 - Chromium reads the receiver reports: it has the relay's round trip, and no more losses than the relay made.
 
 A busy machine can drop datagrams at a full socket of the relay or of the program. Then the relay does not know what arrived: such a
@@ -65,6 +66,7 @@ CALLS = {
     "vp9": "video=VP9,rtx&audio=red,opus",
     "av1": "video=AV1,rtx&audio=red,opus",
     "change": "video=VP8,VP9,rtx&then=VP9",
+    "fec": "video=VP8,rtx,red,ulpfec",
     "second": "video=VP8,rtx&second=1",
     "restart": "video=VP8,rtx",
     "swap": "video=VP8,rtx",
@@ -311,12 +313,16 @@ class Comparison:
     def add(self, sent):
         """Keeps a packet with its frame, and notes which frames it repeats."""
         packet = sent.packet
-        if not packet.payload:
+        if not packet.payload or self.is_fec(packet):
             return
         self.packets[packet.ssrc, packet.timestamp].append(sent)
         if sent.arrived and self.codecs[packet.payload_type] == "red":
             for offset in offsets_of(packet.payload):
                 self.recovered.setdefault((packet.ssrc, packet.timestamp - offset & 0xFFFFFFFF), sent.arrived)
+
+    def is_fec(self, packet):
+        """Whether it is error correction in RED."""
+        return self.codecs[packet.payload_type] == "red" and self.codecs.get(packet.payload[0]) == "ulpfec"
 
     def fault(self, what):
         self.faults.append(f"{self.call.name}: {what}")
@@ -380,11 +386,14 @@ class Comparison:
         for (ssrc, payload_type), frames in senders.items():
             row = Row(self.call.name, self.codecs[payload_type], self.figures(frames))
             journal = self.call.relay.journal
-            row.counts["requested"] = journal.requests[ssrc, payload_type]
+            in_red = [number for number, codec in self.codecs.items() if codec == "red" and self.call.name == "fec"]
+            row.counts["requested"] = sum(journal.requests[ssrc, number] for number in [payload_type, *in_red])
             row.counts["keyframes requested"] = journal.keyframe_requests[ssrc, payload_type]
             if not self.call.dropped:
                 self.check_shares(row)
-            if frames[0].kind in ("key", "delta"):
+            if self.call.name == "fec":
+                self.check_fec()
+            elif frames[0].kind in ("key", "delta"):
                 self.check_requests(row)
             yield row
 
@@ -462,6 +471,13 @@ class Comparison:
         for of, part in parts:
             if row.counts[part] < SHARE_WANTED * row.counts[of]:
                 self.fault(f"{row.codec}: {row.counts[part]} of {row.counts[of]} frames: {part}")
+
+    def check_fec(self):
+        """Packets are rebuilt."""
+        rebuilt = [int(it) for line in self.call.lines for it in re.findall(r"^fec .*rebuilt: (\d+)", line)]
+        self.remarks.append(f"{self.call.name}: {sum(rebuilt)} packets are rebuilt")
+        if not sum(rebuilt):
+            self.fault("no packet is rebuilt")
 
     def check_requests(self, row):
         """Most lost packets of video are sent again, and gaps that stay end with a keyframe."""

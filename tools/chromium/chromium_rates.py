@@ -3,11 +3,14 @@
 
     tools/chromium/chromium_rates.py                      five runs for each loss: 0, 2 and 5 %
     tools/chromium/chromium_rates.py --losses 5 --runs 3 --intervals 50,100
+    tools/chromium/chromium_rates.py --clean 5 --intervals 50,100 --grains 1,1000
 
 In each run a headless Chromium sends for `--seconds` to a session of this library (rust/examples/port_peer.rs), which reports the
 arrivals of its transport, and then to a second peer connection of its page; in every other run in the other order. Both go through
 the same network: the same losses, delay and jitter, from the same seeds. Prints kbit/s after 5 s and after 10 s, each the mean of
-three seconds, and the mean of the second half; then the medians of the runs. Fails unless by the medians the session reaches 95 % of
+three seconds, and the mean of the second half; then the medians of the runs. In the first `--clean` seconds nothing is lost:
+Chromium measures the network by one probe at the start, and a loss in it decides the rates of the first half minute. With
+`--grains` the session also gets times of arrival rounded down to that many microseconds. Fails unless by the medians the session reaches 95 % of
 the largest bitrate within 10 s without losses, and in the second half 80 % of what the other receiver has with losses.
 
 If other programs keep the cores busy, packets and frames are late, and both bitrates fall: run it by `chrt -r 1`, which gives all
@@ -21,7 +24,6 @@ import itertools
 import json
 import os
 import pathlib
-import random
 import re
 import select
 import shutil
@@ -35,7 +37,7 @@ import threading
 import time
 
 from chromium_peer import ROOT, SWITCHES, browse, server_of
-from peer_relay import LOOPBACK, Network, Relay, answer_to, is_stun, sections_of
+from peer_relay import LOOPBACK, Chances, Network, Relay, answer_to, is_stun, sections_of
 
 # A description of a browser that is not to be sent further: its addresses.
 CANDIDATE = re.compile(r"a=(candidate:.*|end-of-candidates)\r\n")
@@ -50,7 +52,7 @@ class DirectRelay(threading.Thread):
         self.ports = [socket.socket(socket.AF_INET, socket.SOCK_DGRAM) for _ in range(2)]
         for port in self.ports:
             port.bind((LOOPBACK, 0))
-        self.chances = [random.Random(network.seed), random.Random(network.seed + 1)]
+        self.chances = [Chances(network, network.seed), Chances(network, network.seed + 1)]
         self.pending, self.order = [], itertools.count()
 
     def description(self, side, text):
@@ -77,10 +79,8 @@ class DirectRelay(threading.Thread):
         if is_stun(data):
             self.ports[1 - side].sendto(data, self.addresses[1 - side])
             return
-        chance, network = self.chances[side], self.network
-        lost, more = chance.uniform(0, 100) < network.loss, chance.uniform(0, network.jitter)
-        if not lost:
-            arrival = time.monotonic() + (network.delay + more) / 1000
+        arrival = self.chances[side].arrival(time.monotonic())
+        if arrival is not None:
             heapq.heappush(self.pending, (arrival, next(self.order), 1 - side, data))
 
     def stop(self):
@@ -94,9 +94,10 @@ class DirectRelay(threading.Thread):
 class Call:
     """A call of a page: to the session, or with `direct` to a second connection of the page."""
 
-    def __init__(self, network, program=None, interval=None, folder=None):
-        self.network, self.program, self.interval, self.folder = network, program, interval, folder
-        self.rates, self.failure, self.process = [], None, None
+    def __init__(self, network, program=None, words=(), folder=None):
+        self.program, self.words, self.folder = program, words, folder
+        self.rates, self.frames, self.failure, self.process = [], {}, None, None
+        self.video_type, self.decodable = None, 0  # the payload type of VP8, and how many of its units a decoder can show
         self.relay = DirectRelay(network) if program is None else Relay(network)
         self.ended = threading.Event()
 
@@ -107,20 +108,32 @@ class Call:
             answer = self.relay.description(1, text)
             self.relay.start()
             return answer
+        if path == "/frames":
+            self.frames = json.loads(text)
+            return ""
         self.rates, self.failure = (json.loads(text), None) if path == "/rates" else ([], text)
         self.ended.set()
         return ""
 
     def answer(self, offer):
         """Starts the program and the relay, and returns the answer."""
+        self.video_type = re.search(r"a=rtpmap:(\d+) VP8/90000", offer)[1]
         path = pathlib.Path(self.folder, "offer.sdp")
         path.write_text(offer, encoding="ascii")
-        words = [self.program, path, f"{LOOPBACK}:{self.relay.inner_port}", *([str(self.interval)] if self.interval else [])]
+        words = [self.program, path, f"{LOOPBACK}:{self.relay.inner_port}", *map(str, self.words)]
         self.process = subprocess.Popen(words, stdout=subprocess.PIPE, text=True)
         self.relay.program = int(self.process.stdout.readline().split()[1])
-        threading.Thread(target=lambda: [None for _ in self.process.stdout], daemon=True).start()
+        self.reader = threading.Thread(target=self.read, daemon=True)
+        self.reader.start()
         self.relay.start()
         return answer_to(offer, self.relay.port, self.relay.user, self.relay.password, len(sections_of(offer)[1]))
+
+    def read(self):
+        """Counts the units of the program: `unit SSRC PAYLOAD_TYPE TIME DECODABLE ..`."""
+        for line in self.process.stdout:
+            kind, _, *fields = line.split(maxsplit=5)
+            if kind == "unit":
+                self.decodable += (fields[0], fields[2]) == (self.video_type, "1")
 
     def finish(self):
         self.relay.stop()
@@ -129,6 +142,7 @@ class Call:
                 self.process.wait(5)
             self.process.kill()
             self.process.wait()
+            self.reader.join()
 
 
 def rates_of(call, seconds):
@@ -180,14 +194,16 @@ def main(words):
     parser.add_argument("--seconds", type=int, default=20)
     parser.add_argument("--seed", type=int, default=1)
     parser.add_argument("--runs", type=int, default=5)
-    parser.add_argument("--intervals", default="", help="milliseconds between two feedbacks; the default of the settings if absent")
+    parser.add_argument("--intervals", default="100", help="milliseconds between two feedbacks; 100, as by default in the settings")
+    parser.add_argument("--grains", default="1", help="microseconds to which times of arrival are rounded; 1 by default")
+    parser.add_argument("--clean", type=float, default=0, help="seconds without losses at the start; 0 by default")
     settings = parser.parse_args(words)
     if not shutil.which("chromium"):
         print("chromium_rates: skipped, there is no chromium")
         return 0
     signal.signal(signal.SIGTERM, lambda *_: sys.exit("terminated"))
-    intervals = [int(word) for word in settings.intervals.split(",") if word] or [None]
-    names = ["session" if interval is None else f"session, {interval} ms" for interval in intervals]
+    ways = list(itertools.product(*([int(word) for word in words.split(",")] for words in (settings.intervals, settings.grains))))
+    names = [f"session, {interval} ms" + (f", to {grain} us" if grain > 1 else "") for interval, grain in ways]
     head = f"| loss | {' | '.join(names)} | Chromium to Chromium |\n|---{'|---' * len(names)}|---|"
     print(head, flush=True)
     faults, rows = [], []
@@ -196,8 +212,8 @@ def main(words):
         for loss in map(float, settings.losses.split(",")):
             runs = []
             for run in range(settings.runs):
-                network = Network(loss, settings.round_trip / 2, settings.jitter, settings.seed + 2 * run)
-                calls = [Call(network, program, interval, folder) for interval in intervals] + [Call(network)]
+                network = Network(loss, settings.round_trip / 2, settings.jitter, settings.seed + 2 * run, settings.clean)
+                calls = [Call(network, program, way, folder) for way in ways] + [Call(network)]
                 order = -1 if run % 2 else 1
                 runs.append([figures_of(rates_of(call, settings.seconds)) for call in calls[::order]][::order])
                 print(row(f"{loss:g} %", runs[-1]), flush=True)

@@ -151,12 +151,28 @@ def nack_numbers(packet):
 
 @dataclasses.dataclass
 class Network:
-    """What the relay does to datagrams: losses in percent, milliseconds each way, and up to how many more at random."""
+    """What the relay does to datagrams: losses in percent, milliseconds each way, and up to how many more at random. None is lost in
+    the first `clean` seconds of media."""
 
     loss: float = 5
     delay: float = 40
     jitter: float = 5
     seed: int = 1
+    clean: float = 0
+
+
+class Chances:
+    """What happens to the datagrams of one way of a call."""
+
+    def __init__(self, network, seed):
+        self.network, self.chance, self.began = network, random.Random(seed), None
+
+    def arrival(self, now):
+        """When a datagram arrives that is sent now; None: never."""
+        self.began = now if self.began is None else self.began
+        network = self.network
+        lost, more = self.chance.uniform(0, 100) < network.loss, self.chance.uniform(0, network.jitter)
+        return None if lost and now >= self.began + network.clean else now + (network.delay + more) / 1000
 
 
 @dataclasses.dataclass
@@ -280,7 +296,7 @@ class Relay(threading.Thread):
             one.bind((LOOPBACK, 0))
         self.port, self.inner_port = self.outside.getsockname()[1], self.inside.getsockname()[1]
         self.browser = None
-        self.chances = [random.Random(network.seed), random.Random(network.seed + 1)]
+        self.chances = [Chances(network, network.seed), Chances(network, network.seed + 1)]
         self.pending, self.order = [], itertools.count()
         self.journal, self.restart, self.running = Journal({}), None, True
 
@@ -325,9 +341,7 @@ class Relay(threading.Thread):
 
     def arrival(self, way, now):
         """When a datagram arrives that is sent now; None: never."""
-        chance, network = self.chances[way], self.network
-        lost, more = chance.uniform(0, 100) < network.loss, chance.uniform(0, network.jitter)
-        return None if lost else now + (network.delay + more) / 1000
+        return self.chances[way].arrival(now)
 
     def later(self, arrival, through, data, address, sent=None):
         if arrival is not None and address is not None:

@@ -1,5 +1,5 @@
-"""Modules of lower crates that stand, in the one crate, among those of the crate above, and what they have for it alone."""
-from layout import HOMES, WITHIN_CRATE
+"""Modules that stand, in the one crate, among those of a crate above or below theirs, and what they have for it alone."""
+from layout import HOMES, LIBRARY, WITHIN_CRATE
 from source import item_start
 from tokens import tokens
 
@@ -7,7 +7,7 @@ PREFIX = "codec_payload_"
 
 
 def bring_home(sources, passed_on):
-    """Gives each such module to the crate above. It is public there if that crate names it again for its users."""
+    """Gives each such module to that crate. It is public there if that crate names it again for its users, or is below."""
     for crate, homes in HOMES.items():
         for key in [key for key in sources if key[0] == crate]:
             f = sources.pop(key)
@@ -15,7 +15,8 @@ def bring_home(sources, passed_on):
                 name_crate(f, crate)
                 sources[homes[key[1][:-3].split("/")[0]], key[1]] = f
         for module, home in homes.items():
-            add_module(sources[home, "lib.rt"], module, (home, module) in passed_on)
+            is_below = LIBRARY.index(home) < LIBRARY.index(crate)
+            add_module(sources[home, "lib.rt"], module, is_below or (home, module) in passed_on)
 
 
 def name_crate(f, crate):

@@ -16,6 +16,7 @@ COUNTS = {
 # Functions that Rust can call in constants too: file below `crates`, and names. So settings may be constants of a program.
 IN_CONSTANTS = {
     "codec_payload_bandwidth_layers/src/chooser.rt": {"live"},
+    "codec_payload_bandwidth_offer/src/offer.rt": {"live"},
     "codec_payload_bandwidth_pacer/src/pacer.rt": {"live"},
     "codec_payload_bandwidth_pacer/src/resends.rt": {"live"},
     "codec_payload_bandwidth_path/src/path.rt": {"live"},

@@ -27,6 +27,8 @@ DESCRIPTORS = ("810001800514853abfaaa18f04304302a02a006001001b934515e082704608c0
                "8000018003187aaaf130a0a014d141382304600864222226500ef00b301df01670 830002 8500071a68004020 8300081a201810")
 # A packet of media, and FEC over it and the lost one behind it.
 FEC = bytes([5, 220, 0x10, 0, 3]) + b"abc" + bytes([0x24, 0, 17, 0, 0, 0, 1, 0, 0, 0, 0, 0, 0, 0, 3, 0xc0, 0, 5, 7, 5])
+# The same in RED, for a port.
+PORT = bytes([5, 220, 0, 0x12, 0, 1, 4, 96]) + b"abc" + bytes([0x22, 0, 1, 18, 117, 0, 0, 0, 1, 0, 0, 0, 0, 0, 0, 0, 3, 0xc0, 0, 5, 7, 5])
 # Calls of a session: polls, a poll at the next deadline, and a BYE of SSRC 1.
 POLL, DEADLINE, BYE = bytes([0]), bytes([7 << 3]), bytes([10 << 3, 0, 0x80, 1, 1, 0])
 
@@ -90,6 +92,7 @@ def seeds():
     for stream in DESCRIPTORS:
         yield "descriptor", b"".join(bytes([len(it)]) + it for it in map(bytes.fromhex, stream.split()))
     yield "fec", FEC
+    yield "ports", PORT
     yield "buffer", bytes([1, 4, 0x80, 1, 0x80, 3, 0x80, 2, 0, 0, 0, 0])
 
 

@@ -114,7 +114,7 @@ class Viewer:
             print(f"{self.name} {second:3d} s: link {self.link.rate(since) / 1000:.0f}, estimate {each.get('estimate', 0) / 1000:.0f}, choices {[one.get('choice') for one in mine]}, "
                   f"rates {[round(rate / 1000) for rate in each.get('rates', [])]}, queued {each.get('queued')}, layer {each['video'].get('layer')} T{each['video'].get('temporal')}, "
                   f"{len(widths)} frames of {max(widths, default=0)}, queue at most {max(waits, default=0):.0f} ms, {lost} dropped, padding {each.get('padding', 0)}, "
-                  f"round trip {each.get('pathRoundTrip')}, restarts {each.get('restarts')}, requested {each['video'].get('requested')}, refused {each['video'].get('refused')}", flush=True)
+                  f"round trip {each.get('pathRoundTrip')}, stands {each.get('standing')} ms, lost usually {each.get('usualLosses')} of 1000, trial {each.get('trial', 0) / 1000:.0f}, requested {each['video'].get('requested')}, refused {each['video'].get('refused')}", flush=True)
         print(f"{self.name}: freezes at {[(round(at, 1), round(gap)) for at, gap in figures['gaps']]}", flush=True)
 
 

@@ -11,7 +11,7 @@ enum {
     KEYFRAME_WITHIN = 200, /* ms: a keyframe of a larger size is to be through by then */
     LITTLE = 150,          /* ms: while more waits, of video the lowest temporal layer alone is sent, and no RED */
     LOSSY = 20,            /* thousandths of the packets that are lost: see list_choices */
-    AHEAD = 150            /* percent: the path is tried up to so much of the highest choice */
+    AHEAD = 150            /* percent: the path is tried up to this share of the highest choice */
 };
 
 /* What a viewer gets with a choice. */
@@ -96,12 +96,12 @@ void path_choose(peer *it, peer *from, uint64_t now) {
     list all;
     uint64_t interval = path->filled && now - path->filled < TRIAL_ENDS ? IN_TRIAL : INTERVAL;
     path->next_choice = (now / interval + 1) * interval;    /* of all viewers at once */
-    if (!from || !it->secure || path->unheard == 0) return; /* what is silent says nothing about the path */
+    if (!from || !it->secure || !path->begun) return;
     list_choices(&all, it, from);
     follow(&all, it, from);
     if (it->media[VIDEO].used && (all.rates[0].rate == 0 || !it->viewer[VIDEO].newest_len)) return;
     if (cpay_path_choose(&path->carries, now, all.rates, all.len, &order)) return;
-    if (cpay_path_state(&path->carries, &path->state)) return;
+    if (cpay_path_state(&path->carries, &path->state) || cpay_path_estimate(&path->carries, &path->knows)) return;
     path->choice = (int)order.choice;
     path->rates_len = all.len;
     for (size_t i = 0; i < all.len; i++) path->rates[i] = all.rates[i].rate;

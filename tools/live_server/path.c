@@ -13,16 +13,15 @@ enum {
     UNHEARD = 2000000,        /* us after which a viewer counts as one that reports nothing */
     FIRST_ROUND_TRIP = 50000, /* us: before the first report */
     OVERTAKEN = 10000,        /* us: a packet may be overtaken by those that left within them after it */
-    ROUND_TRIP_MARGIN = 10000 /* us: a report comes up to so much later */
+    ROUND_TRIP_MARGIN = 10000 /* us: a report comes at most this much later */
 };
 
 /* ---- the beginning and the end ---- */
 
-static bool begin(viewer_path *path, bool follows, uint64_t start) {
+static bool begin(viewer_path *path, bool follows) {
     cpay_path_settings settings;
     cpay_path_settings_init(&settings);
     settings.share = SHARE;
-    if (start > 0) settings.start = start;
     if (path->choice >= 0) settings.choice = (size_t)path->choice;
     if (!follows) settings.start = settings.least = settings.most = OPEN;
     path->follows = follows;
@@ -44,7 +43,7 @@ bool path_begin(peer *it) {
 static void give_up_feedback(peer *it) {
     viewer_stops(it);
     cpay_path_free(&it->path->carries);
-    if (!begin(it->path, false, 0)) it->ended = true;
+    if (!begin(it->path, false)) it->ended = true;
 }
 
 void path_free(peer *it) {
@@ -92,7 +91,7 @@ void path_push(peer *it, cpay_path_kind kind, waiting one, size_t size) {
     viewer_path *path = it->path;
     const cpay_path_packet packet = {.id = id_of(one), .size = (uint32_t)size + CARRIED, .kind = kind};
     bool orders = kind == CPAY_PATH_MEDIA;
-    if (!path->begun && !begin(path, path->follows, 0)) it->ended = true; /* by its first packet: a path is not to be silent */
+    if (!path->begun && !begin(path, path->follows)) it->ended = true;
     if (orders && path->order_len == MOST_ORDERED) path->dropped++;
     else if (cpay_path_push(&path->carries, &packet)) path->dropped++;
     else {
@@ -144,15 +143,15 @@ static void send_packet(peer *it, peer *from, const cpay_path_leaving *leaving, 
     bool numbers = path->follows && one.what != FILLED; /* padding leaves again as it was: SRTP has one nonce for it */
     size_t size = from ? viewer_write(it, from, &one, numbers ? packet : out, MOST_DATAGRAM) : 0, length = 0;
     if (from) pass_left_out(it, from);
-    if (size == 0) return;
-    path->latest = (uint16_t)(leaving->number + path->shift);
-    if (numbers && cpay_number_datagram(it->transport_id, path->latest, packet, size, out, MOST_DATAGRAM, &length)) return;
-    size_t place = path->latest % MOST_LEFT;
+    if (size == 0 || (numbers && cpay_number_datagram(it->transport_id, leaving->number, packet, size, out, MOST_DATAGRAM, &length))) {
+        if (cpay_path_take_back(&path->carries, leaving->number)) it->ended = true; /* it is the latest one */
+        return;
+    }
+    size_t place = leaving->number % MOST_LEFT;
     path->left[place].at = (uint32_t)now;
-    path->left[place].number = path->latest;
+    path->left[place].number = leaving->number;
     path->left[place].repeats = one.what == AGAIN && leaving->packet.kind == CPAY_PATH_RESENT ? one.number : AV_RB16(out + 2);
     path->left[place].is_video = one.track != AUDIO && one.what != FILLED && leaving->packet.kind != CPAY_PATH_PADDING;
-    path->unheard++;
     if (!path->first_left) path->first_left = now;
     srtp_send(it, out, numbers ? length : size, false);
     if (from && path->tails && one.what == PACKET && one.track != AUDIO && out[1] & 0x80)
@@ -207,102 +206,18 @@ static void repeat_lost(peer *it, peer *from, const cpay_packet_arrival *packets
     }
 }
 
-/* ---- a longer way ----
- *
- * After a change of route or of the radio cell all packets take longer. To the library that is a queue, until it has forgotten
- * the way before, after 10 to 20 s. But a queue of this viewer becomes shorter once less is sent. So if the estimate fell, and
- * for some windows the delay stays the same with few losses, the path begins again, with half of the estimate from before. */
-
-enum { WINDOW = 500000, SAME = 6000, LONGER = 15000, RESTS = 10000000 }; /* us */
-enum { MOST_LOST = 15 };                                                 /* percent: a full queue loses more */
-
-static void note_delays(longer_way *way, const viewer_path *path, const cpay_packet_arrival *packets, size_t count) {
-    for (size_t i = 0; i < count; i++) {
-        size_t place = packets[i].number % MOST_LEFT;
-        if (path->left[place].number != packets[i].number) continue;
-        way->count++;
-        way->lost += !packets[i].arrived;
-        int32_t delay = (int32_t)(packets[i].time * 250 - path->left[place].at);
-        if (packets[i].arrived && (!way->any || delay - way->least < 0)) way->least = delay, way->any = true;
-    }
-}
-
-/* Whether the delays of the latest windows are the same, and longer than while the estimate was calm. */
-static bool is_longer(const longer_way *way) {
-    int32_t low = way->latest[0], high = way->latest[0];
-    for (unsigned i = 1; i < 3; i++) {
-        if (way->latest[i] - low < 0) low = way->latest[i];
-        if (way->latest[i] - high > 0) high = way->latest[i];
-    }
-    return way->latest_len == 3 && high - low <= SAME && low - way->calm_delay > LONGER;
-}
-
-/* The path begins again. What waits goes on waiting, and its numbers go on. */
-static void begin_again(peer *it, uint64_t start) {
-    static cpay_path_packet kept[4 * MOST_ORDERED];
-    viewer_path *path = it->path;
-    size_t count = 0;
-    for (cpay_path_kind kind = CPAY_PATH_AUDIO; kind <= CPAY_PATH_PADDING; kind++)
-        while (count < 4 * MOST_ORDERED && cpay_path_remove(&path->carries, kind, &kept[count]) == CPAY_OK) count++;
-    cpay_path_free(&path->carries);
-    path->shift = (uint16_t)(path->latest + 1);
-    if (!begin(path, true, start)) it->ended = true;
-    for (size_t i = 0; i < count && !it->ended; i++)
-        if (cpay_path_push(&path->carries, &kept[i])) path->dropped++;
-}
-
-/* At the end of a window of time. */
-static void watch_way(peer *it, uint64_t now) {
-    viewer_path *path = it->path;
-    longer_way *way = &path->way;
-    if (now - way->began < WINDOW || !way->any) return;
-    bool loses = way->lost * 100 > way->count * MOST_LOST;
-    if (loses) way->latest_len = 0;
-    memmove(way->latest + 1, way->latest, 2 * sizeof *way->latest);
-    way->latest[0] = way->least;
-    if (!loses && way->latest_len < 3) way->latest_len++;
-    if (path->state.estimate >= way->calm_estimate * 9 / 10) {
-        way->calm_estimate = path->state.estimate;
-        way->calm_delay = way->least;
-    } else if (path->state.estimate * 10 < way->calm_estimate * 7 && is_longer(way) && now - way->restarted > RESTS) {
-        begin_again(it, way->calm_estimate / 2);
-        way->calm_estimate /= 2;
-        way->calm_delay = way->least;
-        way->restarted = now;
-        way->restarts++;
-        way->latest_len = 0;
-    }
-    way->began = now;
-    way->any = false;
-    way->count = way->lost = 0;
-}
-
-/* The feedback in a datagram with the numbers of the path. */
-static void shift_numbers(uint8_t *rtcp, size_t size, uint16_t shift) {
-    for (size_t at = 0; at + 16 <= size; at += 4 * ((size_t)AV_RB16(rtcp + at + 2) + 1))
-        if (rtcp[at + 1] == 205 && (rtcp[at] & 31) == 15) AV_WB16(rtcp + at + 12, (uint16_t)(AV_RB16(rtcp + at + 12) - shift));
-}
-
 void path_hear(peer *it, peer *from, const uint8_t *rtcp, size_t size) {
     static cpay_packet_arrival packets[MOST_LEFT];
-    uint8_t shifted[2048];
     viewer_path *path = it->path;
     cpay_transport_feedback_info info = {0};
     uint64_t now = now_us();
-    if (!path->follows || !path->begun || size > sizeof shifted) return;
-    memcpy(shifted, rtcp, size);
-    shift_numbers(shifted, size, path->shift);
+    if (!path->follows || !path->begun) return;
     for (size_t index = 0;; index++) {
         cpay_status status = cpay_read_transport_feedback(rtcp, size, false, index, &info, packets, MOST_LEFT);
         if (status != CPAY_OK && status != CPAY_TOO_SMALL) return;
         measure_round_trip(path, &info, now);
-        if (cpay_path_feedback(&path->carries, now, path->round_trip, shifted, size, false, index)) return;
-        if (status == CPAY_OK) {
-            note_delays(&path->way, path, packets, info.count);
-            repeat_lost(it, from, packets, info.count);
-        }
+        if (cpay_path_feedback(&path->carries, now, path->round_trip, rtcp, size, false, index)) return;
+        if (status == CPAY_OK) repeat_lost(it, from, packets, info.count);
         path->heard = path->next_choice = now; /* a path that carries less is to be heeded at once */
-        path->unheard = 0;
-        watch_way(it, now);
     }
 }

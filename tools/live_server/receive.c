@@ -36,7 +36,6 @@ typedef struct {
     cpay_session_stream stream; /* as the session described it last: at its end the session forgets it */
     cpay_report_block_info reported;
     uint64_t frames, bytes, keyframes, faults, requested, keyframes_requested;
-    uint64_t probes, probes_late, probes_duplicate; /* retransmissions of packets that had come, and how the session counted them */
     uint64_t waited, longest_wait; /* ms from the first packet of a frame to its release: of all frames, and of one */
     rates rates;
 } track;
@@ -138,13 +137,6 @@ static bool begin_source(source *to, uint32_t ssrc) {
     return to->arrived = cpay_history_new(&to->store, &settings) == CPAY_OK;
 }
 
-/* A retransmission of a packet that had come: Chromium sends such ones to find out what the network carries. */
-static void count_probe(track *of, const cpay_arrival *arrival) {
-    of->probes++;
-    of->probes_late += arrival->outcome == CPAY_LATE;
-    of->probes_duplicate += arrival->outcome == CPAY_DUPLICATE;
-}
-
 /* Forwards the packet itself, those that are in RED, or the one that a retransmission repeats. */
 static void forward(peer *it, const cpay_arrival *arrival, const uint8_t *bytes, size_t size) {
     uint8_t original[MOST_DATAGRAM];
@@ -155,9 +147,8 @@ static void forward(peer *it, const cpay_arrival *arrival, const uint8_t *bytes,
     uint8_t red = it->media[kind_of(number)].red_payload_type;
     if (info.payload_type == arrival->payload_type) viewers_forward(it, number, bytes, size);
     else if (red && info.payload_type == red) forward_red(it, &info, bytes);
-    else if (cpay_rtx_original(arrival->ssrc, arrival->payload_type, bytes, size, original, sizeof original, &size) == CPAY_OK &&
-             !viewers_forward(it, number, original, size))
-        count_probe(of, arrival);
+    else if (cpay_rtx_original(arrival->ssrc, arrival->payload_type, bytes, size, original, sizeof original, &size) == CPAY_OK)
+        viewers_forward(it, number, original, size);
 }
 
 /* A datagram for which the session has no memory is a loss. */
@@ -328,9 +319,6 @@ static void describe(peer *it) {
     }
 }
 
-/* What is left of a count without its probes, which are counted since the session described the stream, too. */
-static uint64_t without(uint64_t count, uint64_t probes) { return count > probes ? count - probes : 0; }
-
 static void track_stats(const peer *it, int number, FILE *to) {
     const track *of = &it->publisher->tracks[number];
     const cpay_receiver_counts_info *counts = &of->stream.counts;
@@ -342,9 +330,8 @@ static void track_stats(const peer *it, int number, FILE *to) {
                 COUNT("recovered") COUNT("late") COUNT("duplicates") COUNT("probes") COUNT("incomplete") COUNT("undecodable") COUNT("faults")
                     COUNT("held") COUNT("waited") COUNT("longestWait") COUNT("roundTrip") COUNT("jitter") "\"lost\":%d}",
             of->stream.taken, of->bytes, of->frames, of->keyframes, of->requested, of->keyframes_requested,
-            counts->retransmitted + counts->recovered, without(counts->late, of->probes_late),
-            without(counts->duplicates, of->probes_duplicate), of->probes, counts->incomplete, counts->undecodable,
-            of->faults, (uint64_t)counts->held, of->waited, of->longest_wait, of->stream.round_trip,
+            counts->retransmitted + counts->recovered, counts->late, counts->duplicates, of->stream.probes, counts->incomplete,
+            counts->undecodable, of->faults, (uint64_t)counts->held, of->waited, of->longest_wait, of->stream.round_trip,
             (uint64_t)of->reported.jitter, lost < 1 << 23 ? (int)lost : (int)lost - (1 << 24));
 }
 

@@ -370,9 +370,9 @@ bool viewer_wants_layer(peer *it, const char *name) {
 static void path_stats(const viewer_path *path, FILE *to) {
     fprintf(to,
             COUNT("estimate") COUNT("queued") COUNT("dropped") COUNT("padding") COUNT("pathRoundTrip")
-                COUNT("restarts") "\"choice\":%d,\"rates\":[",
+                COUNT("standing") COUNT("usualLosses") COUNT("trial") "\"choice\":%d,\"rates\":[",
             path->follows ? path->state.estimate : 0, path->state.waiting, path->dropped, path->padding, path->round_trip / 1000,
-            path->way.restarts, path->choice);
+            path->knows.standing / 1000, path->knows.usual_losses, path->knows.trial_rate, path->choice);
     for (size_t i = 0; i < path->rates_len; i++) fprintf(to, "%s%" PRIu64, i ? "," : "", path->rates[i]);
     fputs("],", to);
 }

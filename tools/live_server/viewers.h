@@ -55,20 +55,6 @@ typedef struct {
     int temporal;    /* the highest temporal layer */
 } wishes;
 
-/* Whether the way of the packets became longer: see path.c. Delays are differences of two clocks, in us. */
-typedef struct {
-    uint64_t began;       /* when the window began; 0: not yet */
-    int32_t least;        /* delay in it */
-    bool any;             /* whether packets of it arrived */
-    unsigned count, lost; /* packets of it, and how many were lost */
-    int32_t latest[3];    /* the least delays of the latest windows with few losses */
-    unsigned latest_len;
-    int32_t calm_delay; /* while the estimate did not fall */
-    uint64_t calm_estimate;
-    uint64_t restarted; /* when the path began again */
-    uint64_t restarts;
-} longer_way;
-
 /* The path to a viewer. Times are in microseconds. */
 struct viewer_path {
     cpay_path carries;
@@ -78,10 +64,10 @@ struct viewer_path {
     uint64_t next_choice;       /* when layers are chosen next */
     uint64_t filled;            /* when a trial was filled last; 0: never */
     uint64_t first_left, heard; /* when the first packet left, and when the latest feedback came; 0: never */
-    uint64_t unheard;           /* packets that left since then */
     uint64_t round_trip;        /* by feedback */
     uint64_t dropped, padding;  /* packets for which the queue had no room; bytes that filled trials */
     cpay_path_state_info state; /* at the latest choice */
+    cpay_path_estimate_info knows;
     struct {
         uint32_t at;             /* when it left, modulo 2^32 */
         uint16_t number;         /* transport-wide */
@@ -90,9 +76,7 @@ struct viewer_path {
     } left[MOST_LEFT];           /* the latest packets that left, by their numbers */
     waiting order[MOST_ORDERED]; /* of video, in a ring: what is left out keeps its place */
     size_t order_first, order_len;
-    bool tails;             /* the last packet of a frame leaves twice: the viewer would see its loss with the next frame */
-    uint16_t shift, latest; /* what is added to the numbers of the path, and the latest one that was written */
-    longer_way way;
+    bool tails; /* the last packet of a frame leaves twice: the viewer would see its loss with the next frame */
     wishes wishes;
     int choice;                   /* the place in the list of choices; -1: none yet */
     uint64_t rates[MOST_CHOICES]; /* of the choices, in bits per second */

@@ -8,7 +8,7 @@ them. Where Chromium, ffmpeg and the libraries of tools/live_server are installe
 from it for 12 s at each loss, with 20 ms a hop; these figures vary. Without them that column is left out. On a busy machine the
 camera of Chromium gives fewer frames than its 20 a second: below nine tenths of them, in three calls, the column is left out too.
 
-At 5 % loss the viewer must show at least 95 of 100 frames. In Chromium it may be frozen for 1.6 s, simulated for 3 s: the link falls twice.
+At 5 % loss the viewer must show at least 95 of 100 frames. In Chromium it may be frozen for 1.6 s, simulated for 3.5 s: the link falls twice.
 Needs cargo of 1.85 or later. The last line says what passed; the status is 0 if all passed.
 """
 import os
@@ -23,7 +23,7 @@ LOSSES = (0, 2, 5)
 SECONDS = 12
 # At 5 % loss: the least part of the frames that is shown, in percent, and the most milliseconds of a frozen picture, by column.
 LEAST_SHOWN = 95
-MOST_FROZEN = {"`Forwarder`, in Chromium": 1_600, "`Forwarder`, simulated": 3_000}
+MOST_FROZEN = {"`Forwarder`, in Chromium": 1_600, "`Forwarder`, simulated": 3_500}
 
 sys.path.append(SERVER)
 

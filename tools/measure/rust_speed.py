@@ -8,12 +8,16 @@
   tools/measure/rust_speed.py [--fallible] --receiver
   tools/measure/rust_speed.py [--fallible] --hostile
   tools/measure/rust_speed.py [--fallible] --forward
+  tools/measure/rust_speed.py [--fallible] --ports
+  tools/measure/rust_speed.py [--fallible] --fec
 
 With --buffer it prints the instructions of a push and a pop (tools/speed/src/bin/buffer.rs), with --receiver those of a datagram in a
 receiver. With --sessions it prints what a datagram takes in a session beside a receiver alone (tools/speed/src/bin/session.rs). With
 --orders it prints times of packets in orders of arrival, and the memory of held packets (tools/speed/src/bin/orders.rs). With
 --hostile it prints what a datagram takes where the peer chooses the numbers (tools/speed/src/bin/hostile.rs), with --forward what a
-packet takes for a viewer (tools/speed/src/bin/forward.rs). Both fail if a row is above its bound.
+packet takes for a viewer (tools/speed/src/bin/forward.rs), with --ports what a datagram takes in a port with FEC
+(tools/speed/src/bin/ports.rs), with --fec what it takes in a stream with FEC, and what a sender of FEC takes
+(tools/speed/src/bin/fec.rs). These four fail if a row is above its bound.
 Needs cargo, and valgrind for instructions. Times depend on the machine and on what else runs on it; instructions do not.
 """
 import os
@@ -65,6 +69,29 @@ FORWARDED = {
     ("again", 0): ("a request", 1, 600),
     ("again", 4_096): ("a request for a number behind 4,096 that were left out", 1, 1_050),
     ("leave", 4_096): ("the next packet is left out, 4,096 left out before", 1, 300),
+}
+# The kinds of tools/speed/src/bin/ports.rs, each with the datagrams of a counted one, and its largest number of instructions.
+PORTS = {
+    ("plain",): ("a packet without RED, of a stream without FEC", 1, 1_050),
+    ("media",): ("media in RED, of the first of 64 streams", 1, 2_700),
+    ("last",): ("of the last of them", 1, 3_700),
+    ("fec",): ("FEC over 4 packets that came, and those packets, each", 5, 2_700),
+    ("rebuild",): ("the same with one of them lost, all together", 1, 17_000),
+    ("stranger",): ("the first packet of a stream, in a port that is full of streams with one packet", 1, 22_000),
+}
+# The kinds of tools/speed/src/bin/fec.rs, each with the counted function, what it counts for each COUNT, and its largest number of instructions.
+FEC = {
+    ("media", 5): ("media", "counted", 1, 1_200),
+    ("whole", 5): ("FEC while all packets came", "counted", 1, 2_000),
+    ("rebuild", 5): ("FEC that rebuilds one of 5 packets", "counted", 1, 6_000),
+    ("rebuild", 16): ("FEC that rebuilds one of 16 packets", "counted", 1, 12_000),
+    ("marks", 10): ("media that 64 packets of FEC with 48 bits protect, each of which misses two", "counted", 1, 9_000),
+    ("rebuild", 48): ("FEC that rebuilds one of 48 packets of 1,500 bytes", "counted", 1, 34_000),
+    ("beside", 48): ("that, while 64 packets of FEC protect the same packets", "counted", 1, 43_000),
+    ("window", 512): ("the first of another window, after 512 packets of media", "counted", 1, 100_000),
+    ("push", 5): ("a packet is sent in RED", "counted_push", 5, 1_700),
+    ("finish", 5): ("the FEC of a frame of 5 packets: two", "counted_finish", 1, 13_000),
+    ("finish", 30): ("the FEC of a frame of 30 packets: ten", "counted_finish", 1, 78_000),
 }
 HOSTILE = {"goodbyes": "300 BYEs of nobody, 1,200 bytes", "strays": "a packet of a new SSRC, all places taken"}
 
@@ -119,6 +146,12 @@ def of_forwarded(kind, left, counts=(40, 80)):
     return (many - few) / (counts[1] - counts[0]) / viewers
 
 
+def of_fec(kind, packets, counts=(20, 40)):
+    _, function, times, _ = FEC[kind, packets]
+    few, many = (collected(f"{SPEED}/target/release/fec", kind, packets, count, within=f"fec::{function}") for count in counts)
+    return (many - few) / (counts[1] - counts[0]) / times
+
+
 def print_bounded(title, rows, of_row):
     """Prints a table, and returns whether each row is within its bound."""
     print(f"| {title} | instructions | bound |")
@@ -136,8 +169,21 @@ def print_hostile():
     return print_bounded("a datagram of a session that requests what it misses", CHOSEN, of_hostile)
 
 
+def of_port(kind, counts=(20, 60)):
+    few, many = (collected(f"{SPEED}/target/release/ports", kind, count, within="ports::pass") for count in counts)
+    return (many - few) / (counts[1] - counts[0]) / PORTS[kind,][1]
+
+
+def print_ports():
+    return print_bounded("a datagram in a port with 64 streams", PORTS, of_port)
+
+
 def print_forwarded():
     return print_bounded("a packet of VP8 for a viewer", FORWARDED, of_forwarded)
+
+
+def print_fec():
+    return print_bounded("a datagram of a stream with FEC", FEC, of_fec)
 
 
 def of_packet(way, order, held, counts=(6_528, 13_056)):
@@ -188,6 +234,10 @@ def main(words):
         return 0 if print_hostile() else 1
     if "--forward" in words:
         return 0 if print_forwarded() else 1
+    if "--ports" in words:
+        return 0 if print_ports() else 1
+    if "--fec" in words:
+        return 0 if print_fec() else 1
     if "--receiver" in words:
         print_receiver(features)
         return 0

@@ -21,7 +21,7 @@ use Rattle.codec_payload_answered_runs.proofs.AnsweredCourses.{answers_fill_gaps
 use Rattle.codec_payload_answered_runs.proofs.AnsweredLemmas.{of_settings, requests_are_answered}
 use Rattle.codec_payload_answered_runs.specs.AnsweredRequests.{AllAnswered}
 use Rattle.codec_payload_answered_runs.specs.FilledGaps.{first_size}
-use Rattle.codec_payload_answered_runs.specs.AskedRuns.{Asked, AskedStep, Asks, ComesBy, Does, FillsGaps, Hears, IfAsked, OneServes, ServesRequests, heard_steps}
+use Rattle.codec_payload_answered_runs.specs.AskedRuns.{Asked, AskedStep, Asks, ComesBy, Does, FillsGaps, NotesAnswer, IfAsked, OneServes, ServesRequests, receiver_steps}
 
 -- Steps
 
@@ -43,41 +43,41 @@ comes_past j by k now false later comes = comes
 
 -- nor does another step of the run
 comes_step : (samples : List Sample) (j by sent : ℕ) (step : DatagramStep) (later : List AskedStep) (sends : List SentSample)
-    → ComesBy j by (heard_steps samples (sent_by samples sent step sends) later (sends_by samples step sends)) → ComesBy j by (heard_steps samples sent (Does step ∷ later) sends)
+    → ComesBy j by (receiver_steps samples (sent_by samples sent step sends) later (sends_by samples step sends)) → ComesBy j by (receiver_steps samples sent (Does step ∷ later) sends)
 comes_step samples j by sent (steps.Send i) later sends comes = comes
-comes_step samples j by sent (steps.Deliver k now) later sends comes = comes_past j by k now (ltb k sent) (heard_steps samples sent later sends) comes
+comes_step samples j by sent (steps.Deliver k now) later sends comes = comes_past j by k now (ltb k sent) (receiver_steps samples sent later sends) comes
 comes_step samples j by sent (steps.Pop now) later sends comes = comes
 comes_step samples j by sent steps.Finish later sends comes = comes
 
 comes_again : (samples : List Sample) (j by sent : ℕ) (o : Option ℕ) (now : Ticks) (later : List AskedStep) (sends : List SentSample)
-    → ComesBy j by (heard_steps samples sent later sends) → ComesBy j by (heard_steps samples sent (delivery_before o now later) sends)
+    → ComesBy j by (receiver_steps samples sent later sends) → ComesBy j by (receiver_steps samples sent (delivery_before o now later) sends)
 comes_again samples j by sent None now later sends comes = comes
-comes_again samples j by sent (Some k) now later sends comes = comes_past j by k now (ltb k sent) (heard_steps samples sent later sends) comes
+comes_again samples j by sent (Some k) now later sends comes = comes_past j by k now (ltb k sent) (receiver_steps samples sent later sends) comes
 
 serves_step : (samples : List Sample) (first within j k sent : ℕ) (step : DatagramStep) (later : List AskedStep) (sends : List SentSample) (asked : List Asked)
-    → OneServes first within j k (heard_steps samples (sent_by samples sent step sends) later (sends_by samples step sends)) asked → OneServes first within j k (heard_steps samples sent (Does step ∷ later) sends) asked
+    → OneServes first within j k (receiver_steps samples (sent_by samples sent step sends) later (sends_by samples step sends)) asked → OneServes first within j k (receiver_steps samples sent (Does step ∷ later) sends) asked
 serves_step samples first within j k sent (steps.Send i) later sends asked serves = serves
 serves_step samples first within j k sent (steps.Deliver n now) later sends asked serves = by_sent (ltb n sent)
   where
-    by_sent : (b : Bool) → OneServes first within j k (cond b (Does (steps.Deliver n now) ∷ heard_steps samples sent later sends) (heard_steps samples sent later sends)) asked
+    by_sent : (b : Bool) → OneServes first within j k (cond b (Does (steps.Deliver n now) ∷ receiver_steps samples sent later sends) (receiver_steps samples sent later sends)) asked
     by_sent true = serves
     by_sent false = serves
 serves_step samples first within j k sent (steps.Pop now) later sends asked serves = serves
 serves_step samples first within j k sent steps.Finish later sends asked serves = serves
 
 serves_again : (samples : List Sample) (first within j k sent : ℕ) (o : Option ℕ) (now : Ticks) (later : List AskedStep) (sends : List SentSample) (asked : List Asked)
-    → OneServes first within j k (heard_steps samples sent later sends) asked → OneServes first within j k (heard_steps samples sent (delivery_before o now later) sends) asked
+    → OneServes first within j k (receiver_steps samples sent later sends) asked → OneServes first within j k (receiver_steps samples sent (delivery_before o now later) sends) asked
 serves_again samples first within j k sent None now later sends asked serves = serves
 serves_again samples first within j k sent (Some n) now later sends asked serves = by_sent (ltb n sent)
   where
-    by_sent : (b : Bool) → OneServes first within j k (cond b (Does (steps.Deliver n now) ∷ heard_steps samples sent later sends) (heard_steps samples sent later sends)) asked
+    by_sent : (b : Bool) → OneServes first within j k (cond b (Does (steps.Deliver n now) ∷ receiver_steps samples sent later sends) (receiver_steps samples sent later sends)) asked
     by_sent true = serves
     by_sent false = serves
 
 module _ (number : ℕ) (samples : List Sample) where
   -- a retransmission that arrives is a delivery of the datagram that it repeats
   arrives_comes : (m by j sent : ℕ) (repeated : List ℕ) (later : List AnsweredStep) (sends : List SentSample) (answers : List Resent) → slice_get repeated m ≡ Some j → j < sent → Arrives m by later
-      → ComesBy j by (heard_steps samples sent (asked_steps number samples sent repeated later sends answers) sends)
+      → ComesBy j by (receiver_steps samples sent (asked_steps number samples sent repeated later sends answers) sends)
   arrives_comes m by j sent repeated [] sends answers at less arrives = absurd arrives
   arrives_comes m by j sent repeated (Links (history_steps.Plain step) ∷ later) sends answers at less arrives =
       let more = sent_more samples sent step sends in
@@ -90,8 +90,8 @@ module _ (number : ℕ) (samples : List Sample) where
   arrives_comes m by j sent repeated (Links (history_steps.DeliverAgain i now) ∷ later) sends answers at less (inl here) =
       let same : slice_get repeated i ≡ Some j = ap (slice_get repeated) here.0 ∙ at in
       let rest : List AskedStep = asked_steps number samples sent repeated later sends answers in
-      subst (λ (o : Option ℕ). ComesBy j by (heard_steps samples sent (delivery_before o now rest) sends)) (sym same)
-      (subst (λ (b : Bool). ComesBy j by (cond b (Does (steps.Deliver j now) ∷ heard_steps samples sent rest sends) (heard_steps samples sent rest sends))) (sym (lt-ltb j sent less))
+      subst (λ (o : Option ℕ). ComesBy j by (receiver_steps samples sent (delivery_before o now rest) sends)) (sym same)
+      (subst (λ (b : Bool). ComesBy j by (cond b (Does (steps.Deliver j now) ∷ receiver_steps samples sent rest sends) (receiver_steps samples sent rest sends))) (sym (lt-ltb j sent less))
       (inl (refl, here.1)))
   arrives_comes m by j sent repeated (Links (history_steps.DeliverAgain i now) ∷ later) sends answers at less (inr rest) =
       comes_again samples j by sent (slice_get repeated i) now (asked_steps number samples sent repeated later sends answers) sends (arrives_comes m by j sent repeated later sends answers at less rest)
@@ -107,7 +107,7 @@ module _ (number : ℕ) (samples : List Sample) where
   comes_sooner j by late (Does (steps.Pop now) ∷ later) le comes = comes_sooner j by late later le comes
   comes_sooner j by late (Does steps.Finish ∷ later) le comes = comes_sooner j by late later le comes
   comes_sooner j by late (Asks now ∷ later) le comes = comes_sooner j by late later le comes
-  comes_sooner j by late (Hears now heard ∷ later) le comes = comes_sooner j by late later le comes
+  comes_sooner j by late (NotesAnswer now heard ∷ later) le comes = comes_sooner j by late later le comes
 
   last_at : (xs : List ℕ) (j : ℕ) → slice_get (xs ++ j ∷ []) (length xs) ≡ Some j
   last_at [] j = refl
@@ -120,7 +120,7 @@ module _ (number : ℕ) (samples : List Sample) where
   written_is results.TooLarge j = refl
 
   answered_comes : (j asked_at delay sent m : ℕ) (repeated : List ℕ) (later : List AnsweredStep) (sends : List SentSample) (answers : List Resent) → length repeated ≡ m
-      → IsAnswered number samples j asked_at delay sent m later sends answers → ComesBy j (asked_at + (delay + delay)) (heard_steps samples sent (asked_steps number samples sent repeated later sends answers) sends)
+      → IsAnswered number samples j asked_at delay sent m later sends answers → ComesBy j (asked_at + (delay + delay)) (receiver_steps samples sent (asked_steps number samples sent repeated later sends answers) sends)
   answered_comes j asked_at delay sent m repeated [] sends answers count is = absurd is
   answered_comes j asked_at delay sent m repeated (Links (history_steps.Plain step) ∷ later) sends answers count is =
       comes_step samples j (asked_at + (delay + delay)) sent step (asked_steps number samples (sent_by samples sent step sends) repeated later (sends_by samples step sends) answers) sends
@@ -132,7 +132,7 @@ module _ (number : ℕ) (samples : List Sample) where
       let at : slice_get (repeated ++ more) m ≡ Some j =
       subst (λ (is' : List ℕ). slice_get (repeated ++ is') m ≡ Some j) (sym one) (subst (λ (i : ℕ). slice_get (repeated ++ j ∷ []) i ≡ Some j) count (last_at repeated j)) in
       let soon = here.2 in
-      comes_sooner j (now.0 + delay) (asked_at + (delay + delay)) (heard_steps samples sent (asked_steps number samples sent (repeated ++ more) later sends answers) sends) (omega (arith, soon))
+      comes_sooner j (now.0 + delay) (asked_at + (delay + delay)) (receiver_steps samples sent (asked_steps number samples sent (repeated ++ more) later sends answers) sends) (omega (arith, soon))
       (arrives_comes m (now.0 + delay) j sent (repeated ++ more) later sends answers at here.0 here.4)
   answered_comes j asked_at delay sent m repeated (Links (history_steps.Resend requested now) ∷ later) sends (answer ∷ answers) count (inr rest) =
       let more : List ℕ = repeated_by answer (latest_with number sent requested) in
@@ -146,7 +146,7 @@ module _ (number : ℕ) (samples : List Sample) where
 
   one_serves : (first j delay k sent m : ℕ) (repeated : List ℕ) (later : List AnsweredStep) (sends : List SentSample) (answers : List Resent) (asked : List Asked) → length repeated ≡ m
       → OneIsAnswered number first samples j delay k sent m later sends answers asked
-      → OneServes first (delay + delay) j k (heard_steps samples sent (asked_steps number samples sent repeated later sends answers) sends) asked
+      → OneServes first (delay + delay) j k (receiver_steps samples sent (asked_steps number samples sent repeated later sends answers) sends) asked
   one_serves first j delay k sent m repeated [] sends answers asked count is = tt
   one_serves first j delay k sent m repeated (Links (history_steps.Plain step) ∷ later) sends answers asked count is =
       serves_step samples first (delay + delay) j k sent step (asked_steps number samples (sent_by samples sent step sends) repeated later (sends_by samples step sends) answers) sends asked
@@ -165,9 +165,9 @@ module _ (number : ℕ) (samples : List Sample) where
       by_named (is_in (first + j) x.numbers) is (one_serves first j delay zero sent m repeated later sends answers asked count)
     where
       by_named : (b : Bool) → IfAsked b (IsAnswered number samples j now delay sent m later sends answers) (OneIsAnswered number first samples j delay zero sent m later sends answers asked)
-          → (OneIsAnswered number first samples j delay zero sent m later sends answers asked → OneServes first (delay + delay) j zero (heard_steps samples sent (asked_steps number samples sent repeated later sends answers) sends) asked)
-          → IfAsked b (ComesBy j (now + (delay + delay)) (heard_steps samples sent (asked_steps number samples sent repeated later sends answers) sends))
-          (OneServes first (delay + delay) j zero (heard_steps samples sent (asked_steps number samples sent repeated later sends answers) sends) asked)
+          → (OneIsAnswered number first samples j delay zero sent m later sends answers asked → OneServes first (delay + delay) j zero (receiver_steps samples sent (asked_steps number samples sent repeated later sends answers) sends) asked)
+          → IfAsked b (ComesBy j (now + (delay + delay)) (receiver_steps samples sent (asked_steps number samples sent repeated later sends answers) sends))
+          (OneServes first (delay + delay) j zero (receiver_steps samples sent (asked_steps number samples sent repeated later sends answers) sends) asked)
       by_named true answered rest = answered_comes j now delay sent m repeated later sends answers count answered
       by_named false other rest = rest other
   one_serves first j delay (suc k) sent m repeated (Polls now ∷ later) sends answers (x ∷ asked) count is =
@@ -176,11 +176,11 @@ module _ (number : ℕ) (samples : List Sample) where
       by_named : (b : Bool)
           → IfAsked b (IsAnswered number samples j now delay sent m later sends answers ⊎ OneIsAnswered number first samples j delay k sent m later sends answers asked)
           (OneIsAnswered number first samples j delay (suc k) sent m later sends answers asked)
-          → (OneIsAnswered number first samples j delay k sent m later sends answers asked → OneServes first (delay + delay) j k (heard_steps samples sent (asked_steps number samples sent repeated later sends answers) sends) asked)
-          → (OneIsAnswered number first samples j delay (suc k) sent m later sends answers asked → OneServes first (delay + delay) j (suc k) (heard_steps samples sent (asked_steps number samples sent repeated later sends answers) sends) asked)
-          → IfAsked b (ComesBy j (now + (delay + delay)) (heard_steps samples sent (asked_steps number samples sent repeated later sends answers) sends)
-          ⊎ OneServes first (delay + delay) j k (heard_steps samples sent (asked_steps number samples sent repeated later sends answers) sends) asked)
-          (OneServes first (delay + delay) j (suc k) (heard_steps samples sent (asked_steps number samples sent repeated later sends answers) sends) asked)
+          → (OneIsAnswered number first samples j delay k sent m later sends answers asked → OneServes first (delay + delay) j k (receiver_steps samples sent (asked_steps number samples sent repeated later sends answers) sends) asked)
+          → (OneIsAnswered number first samples j delay (suc k) sent m later sends answers asked → OneServes first (delay + delay) j (suc k) (receiver_steps samples sent (asked_steps number samples sent repeated later sends answers) sends) asked)
+          → IfAsked b (ComesBy j (now + (delay + delay)) (receiver_steps samples sent (asked_steps number samples sent repeated later sends answers) sends)
+          ⊎ OneServes first (delay + delay) j k (receiver_steps samples sent (asked_steps number samples sent repeated later sends answers) sends) asked)
+          (OneServes first (delay + delay) j (suc k) (receiver_steps samples sent (asked_steps number samples sent repeated later sends answers) sends) asked)
       by_named true (inl answered) fewer rest = inl (answered_comes j now delay sent m repeated later sends answers count answered)
       by_named true (inr other) fewer rest = inr (fewer other)
       by_named false other fewer rest = rest other

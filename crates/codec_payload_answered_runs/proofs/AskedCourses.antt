@@ -18,13 +18,13 @@ use Rattle.codec_payload_datagram_runs.specs.WireRuns.{Delivers, PopsUnit, Recei
 use Rattle.codec_payload_datagram_runs.specs.declared.run.DatagramStep.{DatagramStep}
 use Rattle.codec_payload_datagram_runs.specs.declared.run.DatagramStep.TheVariants as steps
 use Rattle.codec_payload_datagram_runs.specs.declared.run.SentSample.{SentSample}
-use Rattle.codec_payload_answered_runs.specs.AskedRuns.{Asked, AskedRuns, AskedStep, Asking, Asks, Does, DoesAsked, Hears, asked_by, heard_steps, plain_of, wanted_by}
+use Rattle.codec_payload_answered_runs.specs.AskedRuns.{Asked, AskedRuns, AskedStep, Asking, Asks, Does, DoesAsked, NotesAnswer, asked_by, receiver_steps, plain_of, wanted_by}
 
 -- a step in which copies of datagrams are delivered
 abbrev pub MakesAsked : Option RetransmissionStream → List Sample → AskedStep → Asking → Asking → Type 0
 MakesAsked again samples (Does step) s t = (wire : Wire) × Makes again samples step s.wire wire × (t ≡ record s { wire = wire })
 MakesAsked again samples (Asks now) s t = DoesAsked samples (Asks now) s t
-MakesAsked again samples (Hears now number) s t = DoesAsked samples (Hears now number) s t
+MakesAsked again samples (NotesAnswer now number) s t = DoesAsked samples (NotesAnswer now number) s t
 
 abbrev pub AskedCourse : Option RetransmissionStream → List Sample → List AskedStep → Asking → Asking → Type 0
 AskedCourse again samples [] s t = t ≡ s
@@ -33,7 +33,7 @@ AskedCourse again samples (step ∷ later) s t = (mid : Asking) × MakesAsked ag
 makes_asked : (again : Option RetransmissionStream) (samples : List Sample) (step : AskedStep) (s t : Asking) → DoesAsked samples step s t → MakesAsked again samples step s t
 makes_asked again samples (Does step) s t does = (does.0, makes again samples step s.wire does.0 does.1, does.2)
 makes_asked again samples (Asks now) s t does = does
-makes_asked again samples (Hears now number) s t does = does
+makes_asked again samples (NotesAnswer now number) s t does = does
 
 pub asked_course : (again : Option RetransmissionStream) (samples : List Sample) (all_steps : List AskedStep) (s t : Asking) → AskedRuns samples all_steps s t → AskedCourse again samples all_steps s t
 asked_course again samples [] s t run = run
@@ -47,24 +47,24 @@ plain_course again samples (Does step ∷ later) s t run =
     (run.0.wire, subst (Makes again samples step s.wire) (sym wire) run.1.1, plain_course again samples later run.0 t run.2)
 plain_course again samples (Asks now ∷ later) s t run =
     subst (λ (w : Wire). Proceeds again samples (plain_of later) w t.wire) (ap (λ (x : Asking). x.wire) run.1) (plain_course again samples later run.0 t run.2)
-plain_course again samples (Hears now number ∷ later) s t run =
+plain_course again samples (NotesAnswer now number ∷ later) s t run =
     subst (λ (w : Wire). Proceeds again samples (plain_of later) w t.wire) (ap (λ (x : Asking). x.wire) run.1) (plain_course again samples later run.0 t run.2)
 
 -- the steps of the receiver
-pub plain_heard : (samples : List Sample) (sent : ℕ) (all_steps : List AskedStep) (sends : List SentSample) → plain_of (heard_steps samples sent all_steps sends) ≡ received_steps samples sent (plain_of all_steps) sends
+pub plain_heard : (samples : List Sample) (sent : ℕ) (all_steps : List AskedStep) (sends : List SentSample) → plain_of (receiver_steps samples sent all_steps sends) ≡ received_steps samples sent (plain_of all_steps) sends
 plain_heard samples sent [] sends = refl
 plain_heard samples sent (Does (steps.Send i) ∷ later) sends = plain_heard samples (sent_after sent (slice_get samples i) sends) later (sends_after (slice_get samples i) sends)
 plain_heard samples sent (Does (steps.Deliver k now) ∷ later) sends = by_sent (ltb k sent) (plain_heard samples sent later sends)
   where
-    by_sent : (b : Bool) → plain_of (heard_steps samples sent later sends) ≡ received_steps samples sent (plain_of later) sends
-        → plain_of (cond b (Does (steps.Deliver k now) ∷ heard_steps samples sent later sends) (heard_steps samples sent later sends))
+    by_sent : (b : Bool) → plain_of (receiver_steps samples sent later sends) ≡ received_steps samples sent (plain_of later) sends
+        → plain_of (cond b (Does (steps.Deliver k now) ∷ receiver_steps samples sent later sends) (receiver_steps samples sent later sends))
         ≡ cond b (steps.Deliver k now ∷ received_steps samples sent (plain_of later) sends) (received_steps samples sent (plain_of later) sends)
     by_sent true rest = ap (λ (xs : List DatagramStep). steps.Deliver k now ∷ xs) rest
     by_sent false rest = rest
 plain_heard samples sent (Does (steps.Pop now) ∷ later) sends = ap (λ (xs : List DatagramStep). steps.Pop now ∷ xs) (plain_heard samples sent later sends)
 plain_heard samples sent (Does steps.Finish ∷ later) sends = ap (λ (xs : List DatagramStep). steps.Finish ∷ xs) (plain_heard samples sent later sends)
 plain_heard samples sent (Asks now ∷ later) sends = plain_heard samples sent later sends
-plain_heard samples sent (Hears now number ∷ later) sends = plain_heard samples sent later sends
+plain_heard samples sent (NotesAnswer now number ∷ later) sends = plain_heard samples sent later sends
 
 -- the receiver and its schedule make these steps over copies of these datagrams, and this is requested
 abbrev pub Listens : Option RetransmissionStream → List AskedStep → List (List ℕ) → Session → Schedule → List Answer → List Asked → Type 0
@@ -79,7 +79,7 @@ Listens again (Does (steps.Pop now) ∷ later) datagrams s c answers asked =
 Listens again (Does steps.Finish ∷ later) datagrams s c answers asked = (mid : Session) × Ends s mid × Listens again later datagrams mid c answers asked
 Listens again (Asks now ∷ later) datagrams s c answers asked =
     (more : List Asked) × (asked ≡ asked_by now s c ∷ more) × Listens again later datagrams s (after_due now (wanted_by now s c)) answers more
-Listens again (Hears now number ∷ later) datagrams s c answers asked = Listens again later datagrams s (after_answer now number c) answers asked
+Listens again (NotesAnswer now number ∷ later) datagrams s c answers asked = Listens again later datagrams s (after_answer now number c) answers asked
 
 module _ (again : Option RetransmissionStream) (samples : List Sample) where
   pub record HearsTo (all_steps : List AskedStep) (s t : Asking) : Type 0 where
@@ -90,10 +90,10 @@ module _ (again : Option RetransmissionStream) (samples : List Sample) where
     pub more : List Asked
     pub asked : t.asked ≡ s.asked ++ more
     pub grows : (k : ℕ) (bytes : List ℕ) → slice_get s.wire.datagrams k ≡ Some bytes → slice_get t.wire.datagrams k ≡ Some bytes
-    pub listens : Listens again (heard_steps samples (length s.wire.datagrams) all_steps later) t.wire.datagrams s.wire.session s.schedule answers more
+    pub listens : Listens again (receiver_steps samples (length s.wire.datagrams) all_steps later) t.wire.datagrams s.wire.session s.schedule answers more
 
   abbrev Heard : ℕ → List AskedStep → List SentSample → List AskedStep
-  Heard = heard_steps samples
+  Heard = receiver_steps samples
 
   send_hears : (o : Option Sample) (i : ℕ) (later : List AskedStep) (s t : Asking) (wire : Wire) → slice_get samples i ≡ o
       → MatchOption o (wire ≡ s.wire) (λ sample. (entry : SentSample) × SendsIt sample s.wire.sending s.wire.datagrams entry wire.sending wire.datagrams
@@ -240,7 +240,7 @@ module _ (again : Option RetransmissionStream) (samples : List Sample) where
         grows = hears.grows;
         listens = (hears.more, refl, hears.listens);
       }
-  hears_to (Hears now number ∷ later) s t run =
+  hears_to (NotesAnswer now number ∷ later) s t run =
       let next : Asking = record s { schedule = after_answer now number s.schedule } in
       let hears : HearsTo later next t = subst (λ (x : Asking). HearsTo later x t) run.1 (hears_to later run.0 t run.2) in
       record {

@@ -1,4 +1,4 @@
--- What a run over datagrams in which each gap is filled pops. What stands in front of `at_pops` repeats ReleaseLemmas of
+-- What a run over datagrams in which each gap is filled pops. The part before `at_pops` repeats ReleaseLemmas of
 -- codec_payload_datagram_runs, whose names for these facts are private.
 use Rattle.std.proofs.Common.{◌≡◌, ◌∙◌, refl, sym, ap, subst, ℕ, ◌+◌, ◌-◌, ◌%◌, ◌^◌, ◌<◌, ◌&&◌, List, [], ◌∷◌, inl, inr, false, Bool, Option, None, length, leb, map, arith}
 use Rattle.std.specs.Prelude.{Contains}
@@ -74,7 +74,7 @@ use Rattle.codec_payload_datagram_runs.proofs.TimelyLemmas.{time_in}
 use Rattle.codec_payload_datagram_runs.specs.declared.run.SentSample.{SentSample}
 use Rattle.codec_payload_answered_runs.proofs.AskedCourses.{AskedCourse, HearsTo, Listens, asked_course, hears_to, plain_course, plain_heard}
 use Rattle.codec_payload_answered_runs.proofs.ServedGaps.{unseen, walk}
-use Rattle.codec_payload_answered_runs.specs.AskedRuns.{AllowsTries, Asked, AskedStep, Asking, FillsGaps, RequestsFillGaps, ServesRequests, begins_asking, heard_steps, plain_of}
+use Rattle.codec_payload_answered_runs.specs.AskedRuns.{AllowsTries, Asked, AskedStep, Asking, FillsGaps, RequestsFillGaps, ServesRequests, begins_asking, receiver_steps, plain_of}
 use Rattle.codec_payload_answered_runs.proofs.WholeRuns.{comes_begun, comes_by, in_turn, none_evicted}
 use Rattle.codec_payload_answered_runs.proofs.WholeTurns.{IsOf, Stands, StandsAt}
 use Rattle.codec_payload_answered_runs.specs.FilledGaps.{FilledGapsLoseNone, FilledGapsLoseNoneWithHistory, GapsAreFilled, IsPoppedBy, KeepsUp, LosesNone, WaitsByTime, first_size}
@@ -470,11 +470,11 @@ module _ (exact : Exact) (on_time : OnTime) (again : Option RetransmissionStream
   hearing : HearsTo again samples all_steps (begins_asking sender receiver settings) t
   hearing = hears_to again samples all_steps (begins_asking sender receiver settings) t run
 
-  listens : Listens again (heard_steps samples 0 all_steps t.wire.sends) t.wire.datagrams receiver (new_schedule settings) t.wire.pops t.asked
+  listens : Listens again (receiver_steps samples 0 all_steps t.wire.sends) t.wire.datagrams receiver (new_schedule settings) t.wire.pops t.asked
   listens =
-      subst (λ (xs : List Asked). Listens again (heard_steps samples 0 all_steps t.wire.sends) t.wire.datagrams receiver (new_schedule settings) t.wire.pops xs) (sym hearing.asked)
-      (subst (λ (as' : List Answer). Listens again (heard_steps samples 0 all_steps t.wire.sends) t.wire.datagrams receiver (new_schedule settings) as' hearing.more) (sym hearing.pops)
-      (subst (λ (es : List SentSample). Listens again (heard_steps samples 0 all_steps es) t.wire.datagrams receiver (new_schedule settings) hearing.answers hearing.more) (sym hearing.sends) hearing.listens))
+      subst (λ (xs : List Asked). Listens again (receiver_steps samples 0 all_steps t.wire.sends) t.wire.datagrams receiver (new_schedule settings) t.wire.pops xs) (sym hearing.asked)
+      (subst (λ (as' : List Answer). Listens again (receiver_steps samples 0 all_steps t.wire.sends) t.wire.datagrams receiver (new_schedule settings) as' hearing.more) (sym hearing.pops)
+      (subst (λ (es : List SentSample). Listens again (receiver_steps samples 0 all_steps es) t.wire.datagrams receiver (new_schedule settings) hearing.answers hearing.more) (sym hearing.sends) hearing.listens))
 
   abbrev run_part : LosesNone samples (plain_of all_steps) (begins sender receiver) t.wire
   run_part = loses_none again samples (plain_of all_steps) sender receiver t.wire (takes_of again samples (plain_of all_steps) sender receiver t.wire on_wire)
@@ -483,11 +483,11 @@ module _ (exact : Exact) (on_time : OnTime) (again : Option RetransmissionStream
   gaps : (max_wait slack within_time k : ℕ) → WaitsByTime max_wait receiver.packets
       → KeepsUp receiver.packets.room receiver.packets.buffer.limit run_part.times.promises.released.units 0 (received_steps samples 0 (plain_of all_steps) t.wire.sends) t.wire.pops
       → AllowsTries settings max_wait slack within_time k receiver.packets.buffer.limit
-      → ServesRequests run_part.times.promises.first slack within_time k (first_size run_part.times.promises.released.units) (heard_steps samples 0 all_steps t.wire.sends) t.asked
+      → ServesRequests run_part.times.promises.first slack within_time k (first_size run_part.times.promises.released.units) (receiver_steps samples 0 all_steps t.wire.sends) t.asked
       → GapsAreFilled max_wait (first_size run_part.times.promises.released.units) [] (received_steps samples 0 (plain_of all_steps) t.wire.sends)
   gaps max_wait slack within_time k waiting keeps allows serves =
       fills_gaps again samples (plain_of all_steps) sender receiver t.wire (takes_of again samples (plain_of all_steps) sender receiver t.wire on_wire)
-      (sends_from again samples (plain_of all_steps) sender receiver t.wire on_wire hears within) hears within plain exact on_time settings (heard_steps samples 0 all_steps t.wire.sends) t.asked
+      (sends_from again samples (plain_of all_steps) sender receiver t.wire on_wire hears within) hears within plain exact on_time settings (receiver_steps samples 0 all_steps t.wire.sends) t.asked
       (plain_heard samples 0 all_steps t.wire.sends) listens max_wait slack within_time k waiting keeps allows serves
 
   pub fills : FillsGaps samples all_steps settings (begins_asking sender receiver settings) t

@@ -53,7 +53,7 @@ use Rattle.codec_payload_answered_runs.proofs.AskedCourses.{Listens}
 use Rattle.codec_payload_answered_runs.proofs.MissingLemmas.{absent_is, lowest_copy, lowest_popped, misses, not_missing}
 use Rattle.codec_payload_answered_runs.proofs.RepeatedRequests.{IsOpen, late, open_answered, open_asked, open_first, open_sooner, sent_after, settings_stay}
 use Rattle.codec_payload_answered_runs.proofs.WholeTurns.{IsOf, Stands, StandsAt, came_has, not_passed, stands_popped, stands_pushed}
-use Rattle.codec_payload_answered_runs.specs.AskedRuns.{AllowsTries, Asked, AskedStep, Asks, AsksInTime, BeginsAt0, ComesBy, Does, FirstComesFirst, Hears, IfAsked, OneServes, TimesRise, asked_by, plain_of, sooner}
+use Rattle.codec_payload_answered_runs.specs.AskedRuns.{AllowsTries, Asked, AskedStep, Asks, AsksInTime, BeginsAt0, ComesBy, Does, FirstComesFirst, NotesAnswer, IfAsked, OneServes, TimesRise, asked_by, plain_of, sooner}
 use Rattle.codec_payload_answered_runs.specs.FilledGaps.{AreFilledAt, Came, CameAt, GapsAreFilled, KeepsUp, StartsWhole, WaitsByTime, first_size, has_come}
 use Rattle.codec_payload_answered_runs.specs.Repeats.{AreInTime, IsBy, due_by, request_by, retry_most}
 
@@ -68,7 +68,7 @@ comes_after j by time (Does (steps.Deliver k now) ∷ later) rise (inr rest) = l
 comes_after j by time (Does (steps.Pop now) ∷ later) rise comes = let le = rise.0 in let after = comes_after j by now.0 later rise.2 comes in omega (arith, le, after)
 comes_after j by time (Does steps.Finish ∷ later) rise comes = comes_after j by time later rise comes
 comes_after j by time (Asks now ∷ later) rise comes = let le = rise.0 in let after = comes_after j by now later rise.2 comes in omega (arith, le, after)
-comes_after j by time (Hears now number ∷ later) rise comes = comes_after j by time later rise comes
+comes_after j by time (NotesAnswer now number ∷ later) rise comes = comes_after j by time later rise comes
 
 sooner_by : (until : Option ℕ) (by now : ℕ) → IsBy (sooner until by) now → IsBy until now
 sooner_by None by now is = tt
@@ -107,7 +107,7 @@ serves_taken first within j (suc k) now later x asked is serves =
 
 module _ (exact : Exact) (on_time : OnTime) (settings : NackSettings) (c : Setting) (r : Receiving) (max_wait slack within k : ℕ) (plain : IsPlain c)
     (waiting : WaitsByTime max_wait r) (short : r.buffer.limit < 2 ^ 63) (allows : AllowsTries settings max_wait slack within k r.buffer.limit) where
-  -- What becomes of a datagram
+  -- How far a datagram is: it came, nobody knows of it yet, it is requested, or it is final
 
   pub data Phase (time : ℕ) (until : Option ℕ) (xs : List Came) (calls : List Call) (later : List AskedStep) (asked : List Asked) (j : ℕ) : Type 0 where
     come : has_come j xs ≡ true → Phase time until xs calls later asked j
@@ -175,7 +175,7 @@ module _ (exact : Exact) (on_time : OnTime) (settings : NackSettings) (c : Setti
   -- After an answer
 
   answered_phase : (time now number : ℕ) (until : Option ℕ) (xs : List Came) (calls : List Call) (later : List AskedStep) (asked : List Asked) (j : ℕ)
-      → Phase time until xs calls (Hears now number ∷ later) asked j → Phase time until xs (answered now number ∷ calls) later asked j
+      → Phase time until xs calls (NotesAnswer now number ∷ later) asked j → Phase time until xs (answered now number ∷ calls) later asked j
   answered_phase time now number until xs calls later asked j (come is) = come is
   answered_phase time now number until xs calls later asked j (unseen all none empty serves) = unseen all none empty serves
   answered_phase time now number until xs calls later asked j (seen since i m has over holds before is_open sum serves) =
@@ -496,5 +496,5 @@ module _ (exact : Exact) (on_time : OnTime) (settings : NackSettings) (c : Setti
         (λ m has over not. subst (λ (ms : List ℕ). is_in (c.first + j) (followed settings ms) ≡ true) (sym same) (missing_here p xs s (delivered (plain_of later)) m j goes has over not))
         (λ all. subst (λ (ms : List ℕ). is_in (c.first + j) (followed settings ms) ≡ false) (sym same) (unseen_here p xs s (delivered (plain_of later)) j goes all))
         (subst (λ (as' : List Asked). Phase time until xs calls (Asks now ∷ later) as' j) listens.1 (phases j)))
-    walk (Hears now number ∷ later) answers asked time until p xs calls s listens keeps rise in_time first among goes phases =
+    walk (NotesAnswer now number ∷ later) answers asked time until p xs calls s listens keeps rise in_time first among goes phases =
         walk later answers asked time until p xs (answered now number ∷ calls) s listens keeps rise in_time first among goes (λ j. answered_phase time now number until xs calls later asked j (phases j))

@@ -52,7 +52,7 @@ few_between test a high low (suc n) within =
     by_test (test low) (λ b. test low ≡ b → length (cond b (low ∷ filter test (numbers_from (low + 1) n)) (filter test (numbers_from (low + 1) n))) ≤ high - max low a)
     (λ t e. let here = within low e in omega (arith, rest, here.0, here.1)) (λ f e. omega (arith, rest)) refl
 
--- so many packets with rising numbers are in a range
+-- packets with rising numbers in a range are at most as many as its numbers
 from_next : (n low high : ℕ) (hs : List Held) → AllAbove n hs → AllHeld (λ (h : Held). (low ≤ number_of h) × (number_of h < high)) hs → AllHeld (λ (h : Held). (n + 1 ≤ number_of h) × (number_of h < high)) hs
 from_next n low high [] above all = tt
 from_next n low high (h ∷ hs) above all = let over = above.0 in ((omega (arith, over), all.0.1), from_next n low high hs above.1 all.1)
@@ -111,7 +111,7 @@ module _ (c : Setting) (r : Receiving) (max_wait : ℕ) (plain : IsPlain c) (set
   StandsAt p xs None = p ≡ 0
   StandsAt p xs (Some cut) = (cut + 1 ≡ c.first + packets_before p c.units) × ((j : ℕ) → c.first + j ≤ cut → has_come j xs ≡ true)
 
-  -- what came is less than the limit, but for the room, above the units that were popped
+  -- what came is above the units that were popped by less than the limit without the room
   abbrev pub IsNear : ℕ → List Came → Type 0
   IsNear p xs = (k : ℕ) → has_come k xs ≡ true → k + r.room < packets_before p c.units + r.buffer.limit
 

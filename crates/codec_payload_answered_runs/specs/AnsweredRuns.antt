@@ -23,7 +23,7 @@ use Rattle.codec_payload_datagram_runs.specs.declared.history_run.HistoryStep.Th
 use Rattle.codec_payload_datagram_runs.specs.declared.run.DatagramStep.TheVariants as steps
 use Rattle.codec_payload_datagram_runs.specs.declared.run.SentSample.{SentSample}
 use Rattle.codec_payload_answered_runs.specs.FilledGaps.{AllArePopped, KeepsUp, WaitsByTime, first_size}
-use Rattle.codec_payload_answered_runs.specs.AskedRuns.{AllowsTries, Asked, AskedStep, Asking, Asks, AsksInTime, BeginsAt0, Does, FillsGaps, FirstComesFirst, Hears, IfAsked, OneServes, TimesRise, asked_by, heard_steps, plain_of, wanted_by}
+use Rattle.codec_payload_answered_runs.specs.AskedRuns.{AllowsTries, Asked, AskedStep, Asking, Asks, AsksInTime, BeginsAt0, Does, FillsGaps, FirstComesFirst, NotesAnswer, IfAsked, OneServes, TimesRise, asked_by, receiver_steps, plain_of, wanted_by}
 
 -- The run
 
@@ -74,7 +74,7 @@ asked_steps first samples sent repeated (Links (history_steps.Resend number now)
 asked_steps first samples sent repeated (Links (history_steps.DeliverAgain j now) ∷ later) sends answers =
     delivery_before (slice_get repeated j) now (asked_steps first samples sent repeated later sends answers)
 asked_steps first samples sent repeated (Polls now ∷ later) sends answers = Asks now ∷ asked_steps first samples sent repeated later sends answers
-asked_steps first samples sent repeated (Notes now number ∷ later) sends answers = Hears now number ∷ asked_steps first samples sent repeated later sends answers
+asked_steps first samples sent repeated (Notes now number ∷ later) sends answers = NotesAnswer now number ∷ asked_steps first samples sent repeated later sends answers
 
 -- of a whole run
 abbrev pub asked_steps_of : List Sample → List AnsweredStep → Answering → Answering → List AskedStep
@@ -178,7 +178,7 @@ abbrev pub AnswersServe : Type 0
 AnswersServe =
     (number first : ℕ) (samples : List Sample) (j delay k : ℕ) (all_steps : List AnsweredStep) (sends : List SentSample) (answers : List Resent) (asked : List Asked)
     → OneIsAnswered number first samples j delay k 0 0 all_steps sends answers asked
-    → OneServes first (delay + delay) j k (heard_steps samples 0 (asked_steps number samples 0 [] all_steps sends answers) sends) asked
+    → OneServes first (delay + delay) j k (receiver_steps samples 0 (asked_steps number samples 0 [] all_steps sends answers) sends) asked
 
 -- Guarantees
 
@@ -192,12 +192,12 @@ AnswersFillGaps =
 
 -- the steps of the receiver
 abbrev pub heard_by : (number : ℕ) → List Sample → List AnsweredStep → List SentSample → List Resent → List AskedStep
-heard_by number samples all_steps sends answers = heard_steps samples 0 (asked_steps number samples 0 [] all_steps sends answers) sends
+heard_by number samples all_steps sends answers = receiver_steps samples 0 (asked_steps number samples 0 [] all_steps sends answers) sends
 
 -- The network, and when it is polled: times do not fall; the schedule is polled in time; the first datagram comes first, and the first
 -- unit before others; and of the first k + 1 requests for each datagram, at most k, or their answers, are lost. A request and an answer
 -- that is not lost arrives within the delay
-pub record IsKind (number limit first slack delay k size : ℕ) (samples : List Sample) (all_steps : List AnsweredStep) (sends : List SentSample) (answers : List Resent) (asked : List Asked) : Type 0 where
+pub record AllowsAnswers (number limit first slack delay k size : ℕ) (samples : List Sample) (all_steps : List AnsweredStep) (sends : List SentSample) (answers : List Resent) (asked : List Asked) : Type 0 where
   pub times : TimesRise 0 (heard_by number samples all_steps sends answers)
   pub asks : AsksInTime slack None (heard_by number samples all_steps sends answers) asked
   pub begins : BeginsAt0 (delivered (plain_of (heard_by number samples all_steps sends answers)))
@@ -207,7 +207,7 @@ pub record IsKind (number limit first slack delay k size : ℕ) (samples : List 
 -- of a run
 abbrev pub AnswersRequests : (first slack delay k size : ℕ) → List Sample → List AnsweredStep → Answering → Answering → Type 0
 AnswersRequests first slack delay k size samples all_steps s t =
-    IsKind s.link.wire.sending.stream.number s.link.history.limit first slack delay k size samples all_steps t.link.wire.sends t.link.answers t.asked
+    AllowsAnswers s.link.wire.sending.stream.number s.link.history.limit first slack delay k size samples all_steps t.link.wire.sends t.link.answers t.asked
 
 -- Lost, requested, answered, whole: the pops return the units in turn, from the first one that was sent on, each whole and none left
 -- out; and each in time, if pops come until None after each delivery and at each deadline

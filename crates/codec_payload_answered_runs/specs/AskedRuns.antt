@@ -30,7 +30,7 @@ pub data AskedStep : Type 0 where
   -- the missing numbers of the receiver are handed to the schedule, and what is due is requested
   Asks : (now : ℕ) → AskedStep
   -- the schedule is informed that a retransmission of this number, in 16 bits, came
-  Hears : (now number : ℕ) → AskedStep
+  NotesAnswer : (now number : ℕ) → AskedStep
 
 -- the numbers that were requested, and the deadline of the schedule afterwards
 pub record Asked : Type 0 where
@@ -62,7 +62,7 @@ abbrev pub DoesAsked : List Sample → AskedStep → Asking → Asking → Type 
 DoesAsked samples (Does step) s t = (wire : Wire) × DoesStep samples step s.wire wire × (t ≡ record s { wire = wire })
 DoesAsked samples (Asks now) s t =
     t ≡ record s { schedule = after_due now (wanted_by now s.wire.session s.schedule); asked = s.asked ++ asked_by now s.wire.session s.schedule ∷ [] }
-DoesAsked samples (Hears now number) s t = t ≡ record s { schedule = after_answer now number s.schedule }
+DoesAsked samples (NotesAnswer now number) s t = t ≡ record s { schedule = after_answer now number s.schedule }
 
 -- the steps, in order
 abbrev pub AskedRuns : List Sample → List AskedStep → Asking → Asking → Type 0
@@ -74,18 +74,18 @@ abbrev pub plain_of : List AskedStep → List DatagramStep
 plain_of [] = []
 plain_of (Does step ∷ later) = step ∷ plain_of later
 plain_of (Asks now ∷ later) = plain_of later
-plain_of (Hears now number ∷ later) = plain_of later
+plain_of (NotesAnswer now number ∷ later) = plain_of later
 
 -- the steps of the receiver and of its schedule: a delivery of a datagram that was not sent yet is none
-abbrev pub heard_steps : List Sample → ℕ → List AskedStep → List SentSample → List AskedStep
-heard_steps samples sent [] sends = []
-heard_steps samples sent (Does (steps.Send i) ∷ later) sends = heard_steps samples (sent_after sent (slice_get samples i) sends) later (sends_after (slice_get samples i) sends)
-heard_steps samples sent (Does (steps.Deliver k now) ∷ later) sends =
-    if nat_lt k sent then Does (steps.Deliver k now) ∷ heard_steps samples sent later sends else heard_steps samples sent later sends
-heard_steps samples sent (Does (steps.Pop now) ∷ later) sends = Does (steps.Pop now) ∷ heard_steps samples sent later sends
-heard_steps samples sent (Does steps.Finish ∷ later) sends = Does steps.Finish ∷ heard_steps samples sent later sends
-heard_steps samples sent (Asks now ∷ later) sends = Asks now ∷ heard_steps samples sent later sends
-heard_steps samples sent (Hears now number ∷ later) sends = Hears now number ∷ heard_steps samples sent later sends
+abbrev pub receiver_steps : List Sample → ℕ → List AskedStep → List SentSample → List AskedStep
+receiver_steps samples sent [] sends = []
+receiver_steps samples sent (Does (steps.Send i) ∷ later) sends = receiver_steps samples (sent_after sent (slice_get samples i) sends) later (sends_after (slice_get samples i) sends)
+receiver_steps samples sent (Does (steps.Deliver k now) ∷ later) sends =
+    if nat_lt k sent then Does (steps.Deliver k now) ∷ receiver_steps samples sent later sends else receiver_steps samples sent later sends
+receiver_steps samples sent (Does (steps.Pop now) ∷ later) sends = Does (steps.Pop now) ∷ receiver_steps samples sent later sends
+receiver_steps samples sent (Does steps.Finish ∷ later) sends = Does steps.Finish ∷ receiver_steps samples sent later sends
+receiver_steps samples sent (Asks now ∷ later) sends = Asks now ∷ receiver_steps samples sent later sends
+receiver_steps samples sent (NotesAnswer now number ∷ later) sends = NotesAnswer now number ∷ receiver_steps samples sent later sends
 
 -- Premises
 
@@ -97,7 +97,7 @@ TimesRise t (Does (steps.Deliver k now) ∷ later) = (t ≤ now.0) × (now.0 < 2
 TimesRise t (Does (steps.Pop now) ∷ later) = (t ≤ now.0) × (now.0 < 2 ^ 63) × TimesRise now.0 later
 TimesRise t (Does steps.Finish ∷ later) = TimesRise t later
 TimesRise t (Asks now ∷ later) = (t ≤ now) × (now < 2 ^ 63) × TimesRise now later
-TimesRise t (Hears now number ∷ later) = TimesRise t later
+TimesRise t (NotesAnswer now number ∷ later) = TimesRise t later
 
 -- the earlier of two times by which something comes
 abbrev pub sooner : Option ℕ → ℕ → Option ℕ
@@ -113,7 +113,7 @@ AsksInTime slack until (Does (steps.Pop now) ∷ later) asked = IsBy until now.0
 AsksInTime slack until (Does steps.Finish ∷ later) asked = AsksInTime slack until later asked
 AsksInTime slack until (Asks now ∷ later) [] = ⊥
 AsksInTime slack until (Asks now ∷ later) (x ∷ asked) = IsBy until now × AsksInTime slack (due_by slack now x.deadline) later asked
-AsksInTime slack until (Hears now number ∷ later) asked = AsksInTime slack until later asked
+AsksInTime slack until (NotesAnswer now number ∷ later) asked = AsksInTime slack until later asked
 
 -- the datagram with this index comes by then
 abbrev pub ComesBy : (j by : ℕ) → List AskedStep → Type 0
@@ -123,7 +123,7 @@ ComesBy j by (Does (steps.Deliver k now) ∷ later) = ((k ≡ j) × (now.0 ≤ b
 ComesBy j by (Does (steps.Pop now) ∷ later) = ComesBy j by later
 ComesBy j by (Does steps.Finish ∷ later) = ComesBy j by later
 ComesBy j by (Asks now ∷ later) = ComesBy j by later
-ComesBy j by (Hears now number ∷ later) = ComesBy j by later
+ComesBy j by (NotesAnswer now number ∷ later) = ComesBy j by later
 
 -- what holds if a number was requested, and what if not
 abbrev pub IfAsked : Bool → Type 0 → Type 0 → Type 0
@@ -135,7 +135,7 @@ IfAsked false P Q = Q
 abbrev pub OneServes : (first within j k : ℕ) → List AskedStep → List Asked → Type 0
 OneServes first within j k [] asked = Unit {0}
 OneServes first within j k (Does step ∷ later) asked = OneServes first within j k later asked
-OneServes first within j k (Hears now number ∷ later) asked = OneServes first within j k later asked
+OneServes first within j k (NotesAnswer now number ∷ later) asked = OneServes first within j k later asked
 OneServes first within j k (Asks now ∷ later) [] = ⊥
 OneServes first within j zero (Asks now ∷ later) (x ∷ asked) = IfAsked (is_in (first + j) x.numbers) (ComesBy j (now + within) later) (OneServes first within j zero later asked)
 OneServes first within j (suc k) (Asks now ∷ later) (x ∷ asked) =
@@ -149,7 +149,7 @@ FirstComesFirst size xs (Does (steps.Deliver k now) ∷ later) = FirstComesFirst
 FirstComesFirst size xs (Does (steps.Pop now) ∷ later) = StartsWhole size xs × FirstComesFirst size xs later
 FirstComesFirst size xs (Does steps.Finish ∷ later) = ⊥
 FirstComesFirst size xs (Asks now ∷ later) = FirstComesFirst size xs later
-FirstComesFirst size xs (Hears now number ∷ later) = FirstComesFirst size xs later
+FirstComesFirst size xs (NotesAnswer now number ∷ later) = FirstComesFirst size xs later
 
 -- the first datagram that comes is the first one that was sent
 abbrev pub BeginsAt0 : List ℕ → Type 0
@@ -183,17 +183,17 @@ pub record FillsGaps (samples : List Sample) (all_steps : List AskedStep) (setti
   pub filled : (max_wait slack within k : ℕ) → WaitsByTime max_wait s.wire.session.packets
       → KeepsUp s.wire.session.packets.room s.wire.session.packets.buffer.limit run.times.promises.released.units 0 (received_steps samples 0 (plain_of all_steps) t.wire.sends) t.wire.pops
       → AllowsTries settings max_wait slack within k s.wire.session.packets.buffer.limit
-      → ServesRequests run.times.promises.first slack within k (first_size run.times.promises.released.units) (heard_steps samples 0 all_steps t.wire.sends) t.asked
+      → ServesRequests run.times.promises.first slack within k (first_size run.times.promises.released.units) (receiver_steps samples 0 all_steps t.wire.sends) t.asked
       → GapsAreFilled max_wait (first_size run.times.promises.released.units) [] (received_steps samples 0 (plain_of all_steps) t.wire.sends)
   pub in_turn : (max_wait slack within k : ℕ) → WaitsByTime max_wait s.wire.session.packets
       → KeepsUp s.wire.session.packets.room s.wire.session.packets.buffer.limit run.times.promises.released.units 0 (received_steps samples 0 (plain_of all_steps) t.wire.sends) t.wire.pops
       → AllowsTries settings max_wait slack within k s.wire.session.packets.buffer.limit
-      → ServesRequests run.times.promises.first slack within k (first_size run.times.promises.released.units) (heard_steps samples 0 all_steps t.wire.sends) t.asked
+      → ServesRequests run.times.promises.first slack within k (first_size run.times.promises.released.units) (receiver_steps samples 0 all_steps t.wire.sends) t.asked
       → AreNext (IsKnownOf samples (plain_of all_steps) s.wire t.wire run.times.promises.released.units) (may_split s.wire.sending.packetizer) run.times.promises.released.units 0 t.wire.pops
   pub in_time : (max_wait slack within k : ℕ) → WaitsByTime max_wait s.wire.session.packets
       → KeepsUp s.wire.session.packets.room s.wire.session.packets.buffer.limit run.times.promises.released.units 0 (received_steps samples 0 (plain_of all_steps) t.wire.sends) t.wire.pops
       → AllowsTries settings max_wait slack within k s.wire.session.packets.buffer.limit
-      → ServesRequests run.times.promises.first slack within k (first_size run.times.promises.released.units) (heard_steps samples 0 all_steps t.wire.sends) t.asked
+      → ServesRequests run.times.promises.first slack within k (first_size run.times.promises.released.units) (receiver_steps samples 0 all_steps t.wire.sends) t.asked
       → OfEachLog samples (plain_of all_steps) s.wire t.wire run.times.promises.released.units
       (λ turns end. PopsInTimeFrom0 max_wait (received_steps samples 0 (plain_of all_steps) t.wire.sends) turns
       → AllArePopped (IsKnownOf samples (plain_of all_steps) s.wire t.wire run.times.promises.released.units) max_wait run.times.promises.first (may_split s.wire.sending.packetizer)

@@ -17,7 +17,7 @@ use Rattle.codec_payload_datagram_runs.specs.WireRunExample.{at, frames_sent, on
 use Rattle.codec_payload_datagram_runs.specs.declared.history_run.HistoryStep.TheVariants as history_steps
 use Rattle.codec_payload_datagram_runs.specs.declared.run.DatagramStep.{DatagramStep}
 use Rattle.codec_payload_datagram_runs.specs.declared.run.DatagramStep.TheVariants as steps
-use Rattle.codec_payload_answered_runs.specs.AnsweredRuns.{AnsweredStep, IsKind, Links, Polls, asked_steps}
+use Rattle.codec_payload_answered_runs.specs.AnsweredRuns.{AnsweredStep, AllowsAnswers, Links, Polls, asked_steps}
 use Rattle.codec_payload_answered_runs.specs.AskedRuns.{AllowsTries, Asked, plain_of}
 use Rattle.codec_payload_answered_runs.specs.FilledGaps.{KeepsUp, WaitsByTime}
 
@@ -67,6 +67,6 @@ pub record AnswersCanBeMet : Type 0 where
   -- whatever units the six pops return
   pub keeps_up : (units : List SentUnit) (answers : List Answer) → length answers ≡ 6 → KeepsUp 512 4096 units 0 (received_steps frames_sent 0 plain_then one_each) answers
   pub allows : AllowsTries two_tries 100 0 20 1 4096
-  pub kind : IsKind 65535 500 131071 0 10 1 1 frames_sent come_back_steps one_each one_written asked_then
+  pub kind : AllowsAnswers 65535 500 131071 0 10 1 1 frames_sent come_back_steps one_each one_written asked_then
   -- the packets that it delivers
   pub are_delivered : delivered (received_steps frames_sent 0 plain_then one_each) ≡ 0 ∷ 2 ∷ 1 ∷ []

@@ -45,7 +45,7 @@ CameAt k at (x ∷ xs) = ((x.datagram ≡ k) × (x.at ≡ at)) ⊎ CameAt k at x
 abbrev pub AreFilledAt : (max_wait now : ℕ) → List Came → Type 0
 AreFilledAt max_wait now xs = (k at j : ℕ) → CameAt k at xs → at + max_wait ≤ now → j < k → has_come j xs ≡ true
 
--- the datagrams of the first unit, so many, have all come; or neither its last one nor a later one has come
+-- the datagrams of the first unit (`size` of them) have all come; or neither its last one nor a later one has come
 abbrev pub StartsWhole : (size : ℕ) → List Came → Type 0
 StartsWhole size xs = ((k : ℕ) → k < size → has_come k xs ≡ true) ⊎ ((k : ℕ) → has_come k xs ≡ true → k + 1 < size)
 

@@ -53,7 +53,7 @@ AreInTime by [] = Unit {0}
 AreInTime by (q ∷ qs) = (q.at ≤ by (length qs)) × AreInTime by qs
 
 -- for any settings, any missing numbers and any polls in time: while the number is missing, the request with index m is made by its
--- time, if that has passed, and the settings allow so many tries
+-- time, if that has passed, and the settings allow m + 1 tries
 abbrev pub RequestsAreRepeated : Type 0
 RequestsAreRepeated =
     (settings : NackSettings) (slack since n now m : ℕ) (ps : List Poll) → settings.tries < 2 ^ 32 → m < settings.tries → ArePolled settings slack since ps

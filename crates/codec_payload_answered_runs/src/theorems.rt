@@ -41,7 +41,7 @@ pub fn requests_fill_gaps()
 
 /// Lost, requested, answered, whole: of a sender that answers by its history, and a receiver that requests what is missing. If each
 /// request and each answer that is not lost arrives within a delay, if of the first k + 1 requests for each datagram at most k are lost,
-/// or their answers, and if the settings allow so many tries in time, then the pops return each unit, whole and in turn, and in time.
+/// or their answers, and if the settings allow k + 1 tries in time, then the pops return each unit, whole and in turn, and in time.
 pub fn lost_packets_come_back()
     ensures whole { LostPacketsComeBack }
     // A request that arrives and is answered, and whose answer arrives: the datagram comes within twice the delay.

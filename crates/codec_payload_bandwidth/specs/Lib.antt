@@ -2,8 +2,10 @@ pub use Rattle.codec_payload_bandwidth_estimate.specs.Arrivals
 pub use Rattle.codec_payload_bandwidth_estimate.specs.Delays
 pub use Rattle.codec_payload_bandwidth_estimate.specs.Losses
 pub use Rattle.codec_payload_bandwidth_estimate.specs.Rates
+pub use Rattle.codec_payload_bandwidth_estimate.specs.Steadiness
 pub use Rattle.codec_payload_bandwidth_estimator.specs.Estimates
 pub use Rattle.codec_payload_bandwidth_layers.specs.Choices
+pub use Rattle.codec_payload_bandwidth_offer.specs.Offers
 pub use Rattle.codec_payload_bandwidth_pacer.specs.Pacing
 pub use Rattle.codec_payload_bandwidth_pacer.specs.ResendRuns
 pub use Rattle.codec_payload_bandwidth_pacer.specs.Resending

@@ -2,7 +2,7 @@
 use Rattle.std.specs.Prelude.{if◌then◌else◌, ◌||◌}
 use Rattle.std.proofs.Common.{◌≡◌, ◌∙◌, ℕ, zero, suc, ◌+◌, ◌-◌, min, Bool, true, false, List, [], ◌∷◌, take, replicate, Option, Some, None, refl, sym, ap, arith, nat_le, nat_lt}
 use Rattle.codec_payload_bandwidth_estimate.specs.declared.delays.Seen.{Seen}
-use Rattle.codec_payload_bandwidth_estimate.specs.Delays.{AnyClockServes, Measured, Packet, above_of, after_packet, after_packets, base_of, beyond, counts, delay_of, least_from, least_of, lesser, moved, newest_of, standing_of, with_epoch, with_seen}
+use Rattle.codec_payload_bandwidth_estimate.specs.Delays.{AnyClockServes, Event, Measured, above_of, after_event, after_events, after_packet, base_of, beyond, counts, delay_of, follow, followed, least_from, least_of, lesser, moved, moved_event, newest_of, packet, standing_of, with_epoch, with_seen}
 
 abbrev pub later_seen : ℕ → Seen → Seen
 later_seen c seen = record { sent = seen.sent; delay = seen.delay + c }
@@ -70,11 +70,6 @@ packet_later c sent arrived m =
     ∙ ap (with_seen (later_seen c (record { sent = sent; delay = delay_of sent arrived }))) (epoch_later c sent m)
     ∙ seen_later c (record { sent = sent; delay = delay_of sent arrived }) (with_epoch sent m)
 
-packets_later : (c : ℕ) (packets : List Packet) → after_packets (moved c packets) ≡ ahead_by c (after_packets packets)
-packets_later c [] = λ i. record { latest = sym (none_later c 32) i; epoch = 0; current = None; before = None }
-packets_later c (packet ∷ before) =
-    ap (after_packet packet.sent (packet.arrived + c)) (packets_later c before) ∙ packet_later c packet.sent packet.arrived (after_packets before)
-
 -- ---- what stands
 
 count_if : (c delay : ℕ) (b : Bool) → (if b then Some (delay + c) else None) ≡ plus c (if b then Some delay else None)
@@ -101,6 +96,19 @@ least_later c index newest least (one ∷ rest) =
 least_of_later : (c : ℕ) (xs : List (Option Seen)) → least_of (later_all c xs) ≡ plus c (least_of xs)
 least_of_later c xs = ap (λ (n : ℕ). least_from 0 n None (later_all c xs)) (newest_later c xs) ∙ least_later c 0 (newest_of xs) None xs
 
+-- ---- events
+
+follow_later : (c : ℕ) (m : Measured) → followed (ahead_by c m) ≡ ahead_by c (followed m)
+follow_later c m = λ i. record { latest = later_all c m.latest; epoch = m.epoch; current = least_of_later c m.latest i; before = None }
+
+event_later : (c : ℕ) (event : Event) (m : Measured) → after_event (moved_event c event) (ahead_by c m) ≡ ahead_by c (after_event event m)
+event_later c (packet sent arrived) m = packet_later c sent arrived m
+event_later c follow m = follow_later c m
+
+events_later : (c : ℕ) (events : List Event) → after_events (moved c events) ≡ ahead_by c (after_events events)
+events_later c [] = λ i. record { latest = sym (none_later c 32) i; epoch = 0; current = None; before = None }
+events_later c (event ∷ before) = ap (after_event (moved_event c event)) (events_later c before) ∙ event_later c event (after_events before)
+
 base_later : (c : ℕ) (m : Measured) → base_of (ahead_by c m) ≡ plus c (base_of m)
 base_later c m = lesser_plus c m.before m.current
 
@@ -112,7 +120,7 @@ above_later c sent arrived m =
     (λ i. beyond (Some (delay_later c sent arrived i)) (base_later c m i)) ∙ beyond_plus c (Some (delay_of sent arrived)) (base_of m)
 
 pub any_clock_serves : AnyClockServes
-any_clock_serves c packets = (
-  ap standing_of (packets_later c packets) ∙ standing_later c (after_packets packets),
-  λ sent arrived. ap (above_of sent (arrived + c)) (packets_later c packets) ∙ above_later c sent arrived (after_packets packets),
+any_clock_serves c events = (
+  ap standing_of (events_later c events) ∙ standing_later c (after_events events),
+  λ sent arrived. ap (above_of sent (arrived + c)) (events_later c events) ∙ above_later c sent arrived (after_events events),
 )

@@ -21,9 +21,9 @@ both_times rate newest at before bytes size h k one two =
     whole = omega (arith, h, k)
 
 by_tests : (rate newest bytes : ℕ) (one : Arrival) (span : Span) (rest : Span) (b d : Bool) → IsOf rate span → (newest - one.at) * rate ≡ bytes * 8000000
-    → IsOf rate rest → IsOf rate (if b then span else (if d then record { bytes = bytes; time = newest - one.at } else rest))
+    → IsOf rate rest → IsOf rate (if b then span else (if d then span else rest))
 by_tests rate newest bytes one span rest true d is here more = is
-by_tests rate newest bytes one span rest false true is here more = here
+by_tests rate newest bytes one span rest false true is here more = is
 by_tests rate newest bytes one span rest false false is here more = more
 
 measured : (rate newest bytes : ℕ) (span : Span) (busy : Bool) (xs : List (Option Arrival)) → NeverIdles rate xs → IsOf rate span

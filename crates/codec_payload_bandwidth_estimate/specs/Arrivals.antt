@@ -20,7 +20,7 @@ measure_from newest bytes span busy [] = span
 measure_from newest bytes span busy (None ∷ rest) = span
 measure_from newest bytes span busy (Some one ∷ rest) =
     if nat_lt 250000 (newest - one.at) then span
-    else (if busy && not one.waited then record { bytes = bytes; time = newest - one.at }
+    else (if busy && not one.waited then span
     else measure_from newest (bytes + one.size) (record { bytes = bytes; time = newest - one.at }) busy rest)
 
 abbrev pub measure_of : Bool → List (Option Arrival) → Span

@@ -53,6 +53,10 @@ least_from index newest least (one ∷ rest) = least_from (index + 1) newest (le
 abbrev pub least_of : List (Option Seen) → Option ℕ
 least_of latest = least_from 0 (newest_of latest) None latest
 
+-- the least delay of the latest packets is that of an empty queue
+abbrev pub followed : Measured → Measured
+followed m = record m { current = least_of m.latest; before = None }
+
 abbrev pub beyond : Option ℕ → Option ℕ → ℕ
 beyond (Some delay) (Some base) = delay - base
 beyond (Some delay) None = 0
@@ -67,24 +71,32 @@ above_of sent arrived m = beyond (Some (delay_of sent arrived)) (base_of m)
 
 -- ---- another clock
 
--- a packet: when it was sent, and when it arrived
-pub record Packet : Type 0 where
-  pub sent : ℕ
-  pub arrived : ℕ
+-- a packet: when it was sent, and when it arrived; or the way is longer
+pub data Event : Type 0 where
+  packet : (sent arrived : ℕ) → Event
+  follow : Event
 
--- after these packets, the latest first
-abbrev pub after_packets : List Packet → Measured
-after_packets [] = no_delays
-after_packets (packet ∷ before) = after_packet packet.sent packet.arrived (after_packets before)
+abbrev pub after_event : Event → Measured → Measured
+after_event (packet sent arrived) m = after_packet sent arrived m
+after_event follow m = followed m
 
--- the same packets, with a clock of the receiver that is ahead by this
-abbrev pub moved : ℕ → List Packet → List Packet
+-- after these events, the latest first
+abbrev pub after_events : List Event → Measured
+after_events [] = no_delays
+after_events (event ∷ before) = after_event event (after_events before)
+
+-- the same events, with a clock of the receiver that is ahead by this
+abbrev pub moved_event : ℕ → Event → Event
+moved_event ahead (packet sent arrived) = packet sent (arrived + ahead)
+moved_event ahead follow = follow
+
+abbrev pub moved : ℕ → List Event → List Event
 moved ahead [] = []
-moved ahead (packet ∷ before) = record { sent = packet.sent; arrived = packet.arrived + ahead } ∷ moved ahead before
+moved ahead (event ∷ before) = moved_event ahead event ∷ moved ahead before
 
 -- another clock of the receiver changes nothing
 abbrev pub AnyClockServes : Type 0
 AnyClockServes =
-    (ahead : ℕ) (packets : List Packet)
-    → (standing_of (after_packets (moved ahead packets)) ≡ standing_of (after_packets packets))
-    × ((sent arrived : ℕ) → above_of sent (arrived + ahead) (after_packets (moved ahead packets)) ≡ above_of sent arrived (after_packets packets))
+    (ahead : ℕ) (events : List Event)
+    → (standing_of (after_events (moved ahead events)) ≡ standing_of (after_events events))
+    × ((sent arrived : ℕ) → above_of sent (arrived + ahead) (after_events (moved ahead events)) ≡ above_of sent arrived (after_events events))

@@ -2,3 +2,4 @@ pub mod Arrivals
 pub mod Delays
 pub mod Losses
 pub mod Rates
+pub mod Steadiness

@@ -85,8 +85,8 @@ impl Arrivals {
         rate_by(measure(&self.latest, false))
     }
 
-    /// Returns the rate since the last packet that did not stand in a queue: what the link carries, in bits per second. If that is less than
-    /// 50 ms ago: the rate of all.
+    /// Returns the rate since the first of the latest packets that stood in a queue: what the link carries, in bits per second. If that is less
+    /// than 50 ms ago: the rate of all.
     pub fn link_rate(&self) -> Option<u128>
         ensures { result ≡ link_rate_of self.now }
     {
@@ -126,7 +126,8 @@ fn rate_by(span: Span) -> Option<u128>
     Some(u128::from(span.bytes) * 8_000_000 / u128::from(span.time))
 }
 
-/// Returns the longest span within the window. `busy`: it begins at the latest packet that did not wait, or later.
+/// Returns the longest span within the window. `busy`: it begins after the latest packet that did not wait, so that a pause before a
+/// queue does not count.
 fn measure(latest: &[Option<Arrival>], busy: bool) -> Span
     requires { length latest.now ≤ 256 }
     ensures { result ≡ measure_of busy latest.now }
@@ -141,13 +142,13 @@ fn measure(latest: &[Option<Arrival>], busy: bool) -> Span
         if newest.saturating_sub(one.at) > WINDOW {
             return span;
         }
+        if busy && !one.waited {
+            return span;
+        }
         span = Span {
             bytes,
             time: newest.saturating_sub(one.at),
         };
-        if busy && !one.waited {
-            return span;
-        }
         bytes += u64::from(one.size);
     }
     span

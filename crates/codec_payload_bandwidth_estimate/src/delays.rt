@@ -1,7 +1,7 @@
 //! How long packets stand in the queue of a path.
 
 ghost use Rattle.std.specs.Prelude.{◌≡◌, ◌∷◌, length, take};
-ghost use Rattle.codec_payload_bandwidth_estimate.specs.Delays.{above_of, after_packet, base_of, counts, delay_of, least_of, lesser, no_delays, standing_of, with_epoch};
+ghost use Rattle.codec_payload_bandwidth_estimate.specs.Delays.{above_of, after_packet, base_of, counts, delay_of, followed, least_of, lesser, no_delays, standing_of, with_epoch};
 
 use std::marker::Model;
 
@@ -86,6 +86,15 @@ impl Delays {
             self.current = None;
             self.epoch = sent;
         }
+    }
+
+    /// Takes the least delay of the latest packets for that of an empty queue: the way has become longer. Then nothing stands, until a
+    /// packet takes longer. A shorter delay counts again at once.
+    pub fn follow(&mut self)
+        ensures { self.new ≡ followed self.old }
+    {
+        self.current = least(&self.latest);
+        self.before = None;
     }
 
     /// Returns how long the latest packets stood in the queue, in microseconds. 0 before the first packet.

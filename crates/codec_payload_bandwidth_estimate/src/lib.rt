@@ -5,4 +5,5 @@ pub mod arrivals;
 pub mod delays;
 pub mod losses;
 pub mod rate;
+pub mod steady;
 pub mod theorems;

@@ -1,12 +1,14 @@
 //! The rate that a path carries: up by trials that ended well, down to what a full link carries.
 
 ghost use Rattle.std.specs.Prelude.{◌≡◌, ◌≤◌};
-ghost use Rattle.codec_payload_bandwidth_estimator.specs.Estimates.{after_fall, after_fates, after_feedback, after_rest, after_silence, after_tick, after_trial, average, begins_trial, carried, ended_well, fall_watch, found_of, is_over, is_silent, less_lost, longer, new_estimate, noted, pace_of, rest_watch, standing_in, watched};
+ghost use Rattle.codec_payload_bandwidth_estimator.specs.Estimates.{after_fall, after_fates, after_feedback, after_noted, after_rest, after_return, after_sent, after_silence, after_tick, after_trial, after_way, average, begins_trial, carried, ended_well, fall_watch, falls_noted, found_of, is_longer, is_over, is_silent, less_lost, longer, new_estimate, noted, pace_of, rest_watch, row_of, silent_watch, standing_in, watched, way_watch};
+ghost use Rattle.codec_payload_bandwidth_estimate.specs.Losses.{usual_of};
 
 use codec_payload_bandwidth_estimate::arrivals::Arrivals;
 use codec_payload_bandwidth_estimate::delays::Delays;
 use codec_payload_bandwidth_estimate::losses::Losses;
 use codec_payload_bandwidth_estimate::rate::{PathRate, Trial};
+use codec_payload_bandwidth_estimate::steady::Steady;
 use codec_payload_base::wire::Ticks;
 use std::marker::Model;
 
@@ -32,10 +34,16 @@ const WHOLE_TRIAL: u64 = 800_000;
 const SHORTEST_WAIT: u64 = 500_000;
 
 /// The longest time between two trials.
-const LONGEST_WAIT: u64 = 8_000_000;
+const LONGEST_WAIT: u64 = 6_000_000;
 
-/// Without feedback for so long the rate is halved.
+/// If a packet left and no feedback came for so long, the rate is halved.
 const SILENCE: u64 = 700_000;
+
+/// The usual losses may rise by so much while a longer way is looked for, in thousandths: a full queue loses more.
+const MORE_LOST: u64 = 20;
+
+/// The time between two longer ways.
+const WAY_RESTS: u64 = 10_000_000;
 
 /// What feedback says of a sent packet.
 #[derive(Clone, Copy, Debug, PartialEq, Eq)]
@@ -58,13 +66,13 @@ pub struct PacketFate {
     pub outcome: PacketOutcome,
 }
 
-/// The times of an estimator, in microseconds.
+/// The times of an estimator, in microseconds, and what it remembers beside them.
 #[derive(Clone, Copy, Debug, PartialEq, Eq)]
 pub(crate) struct Watch {
     /// When the newest packet was sent of which feedback told.
     pub(crate) newest: u64,
-    /// When feedback came.
-    pub(crate) heard: u64,
+    /// When the first packet left since feedback came, or since the rate was halved.
+    pub(crate) waits: Option<u64>,
     /// No other fall before.
     pub(crate) hold: u64,
     /// No trial before.
@@ -77,6 +85,23 @@ pub(crate) struct Watch {
     pub(crate) usual: u64,
     /// The queue is being emptied.
     pub(crate) draining: bool,
+    /// The rate from before a silence, in bits per second. 0: no silence.
+    pub(crate) held: u64,
+    /// How many choices higher the next trial aims.
+    pub(crate) steps: u8,
+    /// No longer way before.
+    pub(crate) follows: u64,
+}
+
+/// A row of falls: from the first one until the path is at rest.
+#[derive(Clone, Copy, Debug, PartialEq, Eq)]
+pub(crate) struct Falls {
+    /// The rate before the first of them, in bits per second.
+    pub(crate) rate: u64,
+    /// The usual losses then, in thousandths.
+    pub(crate) lost: u64,
+    /// Whether what stands stays the same meanwhile.
+    pub(crate) steady: Steady,
 }
 
 /// The rate that the path to a viewer carries, by what its feedback says.
@@ -91,6 +116,7 @@ pub struct BandwidthEstimator {
     losses: Losses,
     rate: PathRate,
     trial: Option<Trial>,
+    falls: Option<Falls>,
     watch: Watch,
 }
 
@@ -99,9 +125,9 @@ impl Model for BandwidthEstimator {
 
     ghost Value = { Estimate };
 
-    ghost view = { λ e. record { delays = e.delays; arrivals = e.arrivals; losses = e.losses; rate = e.rate; trial = e.trial; watch = e.watch } };
+    ghost view = { λ e. record { delays = e.delays; arrivals = e.arrivals; losses = e.losses; rate = e.rate; trial = e.trial; falls = e.falls; watch = e.watch } };
 
-    ghost inverse = { λ e. record { delays = e.delays; arrivals = e.arrivals; losses = e.losses; rate = e.rate; trial = e.trial; watch = e.watch } };
+    ghost inverse = { λ e. record { delays = e.delays; arrivals = e.arrivals; losses = e.losses; rate = e.rate; trial = e.trial; falls = e.falls; watch = e.watch } };
 }
 
 impl BandwidthEstimator {
@@ -115,15 +141,19 @@ impl BandwidthEstimator {
             losses: Losses::new(),
             rate: PathRate::new(start, least, most),
             trial: None,
+            falls: None,
             watch: Watch {
                 newest: 0,
-                heard: now.0,
+                waits: None,
                 hold: 0,
                 next: now.0,
                 wait: 2_000_000,
                 least: u64::MAX,
                 usual: 0,
                 draining: false,
+                held: 0,
+                steps: 2,
+                follows: 0,
             },
         }
     }
@@ -170,13 +200,52 @@ impl BandwidthEstimator {
         self.watch.draining
     }
 
-    /// Notes what one feedback says of packets, in the order of their sending, and judges the path.
+    /// Returns how long packets stand in the queue, in microseconds.
+    pub fn standing(&self) -> u64
+        ensures { result ≡ standing_in self.now.delays }
+    {
+        standing(&self.delays)
+    }
+
+    /// Returns the usual losses, in thousandths.
+    pub fn usual_losses(&self) -> u64
+        ensures value { result ≡ usual_of self.now.losses }
+        ensures most { result ≤ 1000 }
+    {
+        self.losses.usual()
+    }
+
+    /// Returns how many choices higher the next trial is to aim: 2 at the beginning and after a trial that ended well, or else 1.
+    pub fn steps(&self) -> usize
+        ensures { result ≡ self.now.watch.steps }
+    {
+        usize::from(self.watch.steps)
+    }
+
+    /// Notes that a packet left. Call it for each: silence counts from the first packet that left since the last feedback.
+    pub fn sent(&mut self, now: Ticks)
+        ensures { self.new ≡ after_sent now.0 self.old }
+    {
+        if self.watch.waits.is_none() {
+            self.watch.waits = Some(now.0);
+        }
+    }
+
+    /// Notes what one feedback says of packets, in the order of their sending, and judges the path: [`BandwidthEstimator::note`] for each,
+    /// and [`BandwidthEstimator::judge`].
     pub fn feedback(&mut self, now: Ticks, round_trip: u64, fates: &[PacketFate])
         ensures { self.new ≡ after_feedback now.0 round_trip fates.now self.old }
     {
         self.note_all(fates);
+        self.judge(now, round_trip);
+    }
+
+    /// Judges the path by the packets that were noted: see [`BandwidthEstimator::note`].
+    pub fn judge(&mut self, now: Ticks, round_trip: u64)
+        ensures { self.new ≡ after_noted now.0 round_trip self.old }
+    {
         let standing = standing(&self.delays);
-        self.watch = watched(now.0, standing, self.trial, self.watch);
+        self.watch = watched(standing, self.trial, self.watch);
         let too_many = self.losses.judge(now.0);
         if too_many || is_over(standing, self.trial.is_some(), self.watch.usual) {
             if now.0 >= self.watch.hold {
@@ -184,11 +253,13 @@ impl BandwidthEstimator {
             }
         } else {
             self.rest(now, standing);
+            self.return_from_silence(now);
         }
+        self.watch_way(now, standing);
     }
 
-    /// Lets time pass: without feedback the rate is halved, and a trial of `wanted` begins if one is due. `sending` is the rate at which
-    /// you send now. A `wanted` of 0 begins none.
+    /// Lets time pass: if packets leave and no feedback comes, the rate is halved, and a trial of `wanted` begins if one is due.
+    /// `sending` is the rate at which you send now. A `wanted` of 0 begins none.
     pub fn tick(&mut self, now: Ticks, sending: u64, wanted: u64)
         ensures { self.new ≡ after_tick now.0 sending wanted self.old }
     {
@@ -204,15 +275,44 @@ impl BandwidthEstimator {
         }
     }
 
-    /// Halves the rate if no feedback came for long.
+    /// Halves the rate if packets left and no feedback came for long.
     fn listen(&mut self, now: Ticks)
         ensures { self.new ≡ after_silence now.0 self.old }
     {
-        if is_silent(now.0, self.watch.heard) {
+        if is_silent(now.0, self.watch.waits) {
+            self.watch = silent_watch(now.0, self.rate.estimate(), self.watch);
             self.rate.halve();
             self.trial = None;
-            self.watch.heard = now.0;
-            self.watch.next = now.0.saturating_add(1_000_000);
+        }
+    }
+
+    /// Feedback came after a silence, and no queue stands: the rate is at least half of the one from before, and a trial is due.
+    fn return_from_silence(&mut self, now: Ticks)
+        ensures { self.new ≡ after_return now.0 self.old }
+    {
+        if self.watch.held > 0 {
+            self.rate.raise(self.watch.held / 2);
+            self.watch.held = 0;
+            self.watch.next = now.0;
+        }
+    }
+
+    /// Notes what stands in a row of falls. If it stays the same, the way is longer: the rate is at least half of the one from before,
+    /// and a trial is due.
+    fn watch_way(&mut self, now: Ticks, standing: u64)
+        ensures { self.new ≡ after_way now.0 standing self.old }
+    {
+        let Some(falls) = self.falls else {
+            return;
+        };
+        let falls = noted_falls(now.0, standing, falls);
+        if is_longer(now.0, self.losses.usual(), self.watch.follows, falls) {
+            self.delays.follow();
+            self.rate.raise(falls.rate / 2);
+            self.watch = way_watch(now.0, self.watch);
+            self.falls = None;
+        } else {
+            self.falls = Some(falls);
         }
     }
 
@@ -235,8 +335,8 @@ impl BandwidthEstimator {
         }
     }
 
-    /// Notes a packet.
-    fn note(&mut self, fate: &PacketFate)
+    /// Notes what is known of a packet. Note packets in the order of their sending.
+    pub fn note(&mut self, fate: &PacketFate)
         ensures { self.new ≡ noted fate.now self.old }
     {
         self.watch.newest = self.watch.newest.max(fate.sent);
@@ -257,6 +357,13 @@ impl BandwidthEstimator {
         ensures { self.new ≡ after_fall now.0 round_trip standing self.old }
     {
         let found = found(&self.arrivals, self.rate.estimate());
+        self.falls = Some(row(
+            now.0,
+            round_trip,
+            self.rate.estimate(),
+            self.losses.usual(),
+            self.falls,
+        ));
         match &self.trial {
             Some(trial) => self.rate.settle(found, trial.to),
             None => self.rate.fall(found),
@@ -276,6 +383,9 @@ impl BandwidthEstimator {
         ensures { self.new ≡ after_rest now.0 standing self.old }
     {
         self.watch = rest_watch(standing, self.trial.is_some(), self.watch);
+        if !self.watch.draining {
+            self.falls = None;
+        }
         if let Some(trial) = self.trial {
             if self.watch.newest.saturating_sub(trial.begun.0) >= WHOLE_TRIAL {
                 self.end_trial(now, trial.to);
@@ -291,7 +401,9 @@ impl BandwidthEstimator {
         if ended_well(&self.arrivals, to, self.watch) {
             self.rate.raise(to);
             self.watch.next = now.0.saturating_add(SHORTEST_WAIT);
+            self.watch.steps = 2;
         } else {
+            self.watch.steps = 1;
             self.watch.wait = longer(self.watch.wait);
             self.watch.next = now.0.saturating_add(self.watch.wait);
         }
@@ -305,9 +417,9 @@ fn standing(delays: &Delays) -> u64
     delays.standing().min(u128::from(u64::MAX)) as u64
 }
 
-/// Returns what feedback changes at once: the time, and the least that stands at the end of a trial.
-fn watched(now: u64, standing: u64, trial: Option<Trial>, watch: Watch) -> Watch
-    ensures { result ≡ watched now standing trial watch }
+/// Returns what feedback changes at once: nothing is waited for, and the least that stands at the end of a trial.
+fn watched(standing: u64, trial: Option<Trial>, watch: Watch) -> Watch
+    ensures { result ≡ watched standing trial watch }
 {
     let least = match trial {
         Some(trial) if watch.newest.saturating_sub(trial.begun.0) >= SETTLED => watch
@@ -316,7 +428,7 @@ fn watched(now: u64, standing: u64, trial: Option<Trial>, watch: Watch) -> Watch
         _ => watch.least,
     };
     Watch {
-        heard: now,
+        waits: None,
         least,
         ..watch
     }
@@ -334,11 +446,68 @@ fn is_over(standing: u64, in_trial: bool, usual: u64) -> bool
     standing > usual.saturating_add(tolerated)
 }
 
-/// Returns whether no feedback came for long.
-fn is_silent(now: u64, heard: u64) -> bool
-    ensures { result ≡ is_silent now heard }
+/// Returns whether a packet left long ago, and no feedback came since.
+fn is_silent(now: u64, waits: Option<u64>) -> bool
+    ensures { result ≡ is_silent now waits }
 {
-    now.saturating_sub(heard) > SILENCE
+    match waits {
+        Some(since) => now.saturating_sub(since) > SILENCE,
+        None => false,
+    }
+}
+
+/// Returns the times after a silence in which the rate is halved from this one.
+fn silent_watch(now: u64, rate: u64, watch: Watch) -> Watch
+    ensures { result ≡ silent_watch now rate watch }
+{
+    Watch {
+        waits: None,
+        next: now.saturating_add(1_000_000),
+        held: watch.held.max(rate),
+        ..watch
+    }
+}
+
+/// Returns the row that a fall belongs to: the one under way, or a new one, which begins with this rate and these usual losses.
+fn row(now: u64, round_trip: u64, rate: u64, lost: u64, falls: Option<Falls>) -> Falls
+    ensures { result ≡ row_of now round_trip rate lost falls }
+{
+    match falls {
+        Some(falls) => falls,
+        None => Falls {
+            rate,
+            lost,
+            steady: Steady::begin(now.saturating_add(round_trip)),
+        },
+    }
+}
+
+/// Returns a row after what stands at this time.
+fn noted_falls(now: u64, standing: u64, falls: Falls) -> Falls
+    ensures { result ≡ falls_noted now standing falls }
+{
+    let mut steady = falls.steady;
+    steady.note(now, standing);
+    Falls { steady, ..falls }
+}
+
+/// Returns whether a row of falls shows a longer way: what stands is steady, and few more packets are lost than before.
+fn is_longer(now: u64, lost: u64, follows: u64, falls: Falls) -> bool
+    ensures { result ≡ is_longer now lost follows falls }
+{
+    now >= follows && falls.steady.is_steady() && lost <= falls.lost.saturating_add(MORE_LOST)
+}
+
+/// Returns the times after a longer way was found.
+fn way_watch(now: u64, watch: Watch) -> Watch
+    ensures { result ≡ way_watch now watch }
+{
+    Watch {
+        next: now,
+        draining: false,
+        follows: now.saturating_add(WAY_RESTS),
+        ..watch
+    }
 }
 
 /// Returns 95 percent of what the link carries. If that is unknown: of half of the estimate.
@@ -380,6 +549,8 @@ fn fall_watch(now: u64, round_trip: u64, standing: u64, in_trial: bool, watch: W
         next: now.saturating_add(wait),
         wait,
         draining: standing > CLEAR,
+        held: 0,
+        steps: 1,
         ..watch
     }
 }

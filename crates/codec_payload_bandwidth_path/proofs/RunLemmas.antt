@@ -10,7 +10,7 @@ use Rattle.codec_payload_bandwidth_pacer.specs.Runs.{carried_by, last_size, left
 use Rattle.codec_payload_bandwidth_pacer.specs.declared.pacer.PacedPacket.{PacedPacket}
 use Rattle.codec_payload_bandwidth_path.specs.Departures.{Departed, clock_by, counted_of, departed_in, index_near, last_time, open_index, reported_fates, unknown_fates}
 use Rattle.codec_payload_bandwidth_path.specs.Paths.{Path, after_feedback, after_pop, estimate_by, is_first, limit_with, new_path, with_leaving}
-use Rattle.codec_payload_bandwidth_path.specs.PathRuns.{Call, LeavesByThePace, LimitsByCalls, PacketsBehindChangeNothing, ResendsByTheShare, StrangersChangeNothing, after_call, after_calls, choose, feedback, left_by, limit_calls, limit_calls_of, pacer_calls, pop, push, remove, resend, sent_call}
+use Rattle.codec_payload_bandwidth_path.specs.PathRuns.{Call, LeavesByThePace, LimitsByCalls, PacketsBehindChangeNothing, ResendsByTheShare, StrangersChangeNothing, after_call, after_calls, choose, feedback, left_by, limit_calls, limit_calls_of, pacer_calls, pop, push, remove, resend, sent_call, take_back}
 
 -- ---- the pacer
 
@@ -31,6 +31,7 @@ leaves_as (remove kind ∷ calls) p = leaves_as calls (after_call (remove kind) 
 leaves_as (resend now number size round_trip ∷ calls) p = leaves_as calls (after_call (resend now number size round_trip) p)
 leaves_as (feedback now round_trip base statuses ∷ calls) p = leaves_as calls (after_call (feedback now round_trip base statuses) p)
 leaves_as (choose now choices ∷ calls) p = leaves_as calls (after_call (choose now choices) p)
+leaves_as (take_back number ∷ calls) p = leaves_as calls (after_call (take_back number) p)
 
 pub leaves_by_the_pace : LeavesByThePace
 leaves_by_the_pace p calls =
@@ -61,6 +62,7 @@ limits_as (resend now number size round_trip ∷ calls) p before first same =
     limits_as calls (after_call (resend now number size round_trip) p) _ first (ap (λ (l : Limit). after_resend now number size round_trip l) same)
 limits_as (feedback now round_trip base statuses ∷ calls) p before first same = limits_as calls (after_call (feedback now round_trip base statuses) p) before first same
 limits_as (choose now choices ∷ calls) p before first same = limits_as calls (after_call (choose now choices) p) before first same
+limits_as (take_back number ∷ calls) p before first same = limits_as calls (after_call (take_back number) p) before first same
 
 pub limits_by_calls : LimitsByCalls
 limits_by_calls now settings calls = limits_as calls (new_path now settings) [] (new_limit settings.resends) refl

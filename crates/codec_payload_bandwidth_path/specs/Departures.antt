@@ -1,6 +1,6 @@
 -- The packets that left on a path, and what feedback says of them. Times are in microseconds, those of the receiver's clock in quarters
 -- of a millisecond.
-use Rattle.std.specs.Prelude.{ℕ, ◌+◌, ◌-◌, ◌*◌, ◌%◌, ◌^◌, ◌==◌, max, min, nat_le, nat_lt, if◌then◌else◌, List, [], ◌∷◌, ◌++◌, map, drop, take, length, Option, Some, None}
+use Rattle.std.specs.Prelude.{ℕ, ◌+◌, ◌-◌, ◌*◌, ◌%◌, ◌^◌, ◌==◌, max, min, nat_le, nat_lt, ◌&&◌, if◌then◌else◌, Bool, List, [], ◌∷◌, ◌++◌, map, drop, take, length, Option, Some, None}
 use Rattle.codec_payload_base.specs.Extended.{extended}
 use Rattle.codec_payload_bandwidth_estimator.specs.declared.estimator.PacketFate.{PacketFate}
 use Rattle.codec_payload_bandwidth_estimator.specs.declared.estimator.PacketOutcome.{PacketOutcome}
@@ -114,3 +114,28 @@ heard_by (Some base) statuses d = heard_from base statuses d
 
 abbrev pub heard : ℕ → List (Option ℕ) → Departed → Departed
 heard base statuses d = heard_by (index_near base d.count) statuses d
+
+-- ---- which packets are lost
+
+-- the numbers of those that these statuses report lost, the first of which has this index
+abbrev pub lost_from : ℕ → List (Option ℕ) → List ℕ
+lost_from from [] = []
+lost_from from (None ∷ statuses) = from % 65536 ∷ lost_from (from + 1) statuses
+lost_from from (Some low ∷ statuses) = lost_from (from + 1) statuses
+
+abbrev pub lost_by : Option ℕ → List (Option ℕ) → Departed → List ℕ
+lost_by None statuses d = []
+lost_by (Some base) statuses d = lost_from (max base (open_index d)) (drop (max base (open_index d) - base) (counted_of base statuses d))
+
+-- of those packets of which the fates are reported
+abbrev pub lost_of : ℕ → List (Option ℕ) → Departed → List ℕ
+lost_of base statuses d = lost_by (index_near base d.count) statuses d
+
+-- ---- a packet that is taken back
+
+-- it left last, and no feedback counted of it
+abbrev pub is_latest : ℕ → Departed → Bool
+is_latest number d = nat_lt d.counted d.count && ((d.count - 1) % 65536 == number)
+
+abbrev pub taken_back : ℕ → Departed → Departed
+taken_back number d = if is_latest number d then record d { count = d.count - 1; latest = take (length d.latest - 1) d.latest } else d

@@ -8,12 +8,12 @@ use Rattle.codec_payload_bandwidth_pacer.specs.ResendRuns.{Call as LimitCall, af
 use Rattle.codec_payload_bandwidth_pacer.specs.Runs.{Call as PacerCall, carried_by, last_size, pop as pacer_pop, push as pacer_push, remove as pacer_remove, set_rate, sizes, with_packet}
 use Rattle.codec_payload_bandwidth_pacer.specs.declared.pacer.PacedKind.{PacedKind}
 use Rattle.codec_payload_bandwidth_pacer.specs.declared.pacer.PacedPacket.{PacedPacket}
-use Rattle.codec_payload_bandwidth_path.specs.Departures.{index_near}
+use Rattle.codec_payload_bandwidth_path.specs.Departures.{index_near, taken_back}
 use Rattle.codec_payload_bandwidth_path.specs.Paths.{Path, after_choice, after_feedback, after_pop, estimate_at, is_first, least_pace, new_path}
 use Rattle.codec_payload_bandwidth_path.specs.declared.path.PathSettings.{PathSettings}
 
 -- a packet that is stored; what leaves now; the first packet of a kind is removed; a packet may be retransmitted, or not; feedback;
--- a choice of layers
+-- a choice of layers; the latest packet is taken back
 pub data Call : Type 0 where
   push : (packet : PacedPacket) → Call
   pop : (now : ℕ) → Call
@@ -21,6 +21,7 @@ pub data Call : Type 0 where
   resend : (now number size round_trip : ℕ) → Call
   feedback : (now round_trip base : ℕ) (statuses : List (Option ℕ)) → Call
   choose : (now : ℕ) (choices : List LayerChoice) → Call
+  take_back : (number : ℕ) → Call
 
 abbrev pub after_call : Call → Path → Path
 after_call (push packet) p = record p { pacer = pushed packet p.pacer }
@@ -29,6 +30,7 @@ after_call (remove kind) p = record p { pacer = removed kind p.pacer }
 after_call (resend now number size round_trip) p = record p { limit = after_resend now number size round_trip p.limit }
 after_call (feedback now round_trip base statuses) p = after_feedback now round_trip base statuses p
 after_call (choose now choices) p = after_choice now choices p
+after_call (take_back number) p = record p { departures = taken_back number p.departures }
 
 abbrev pub after_calls : List Call → Path → Path
 after_calls [] p = p
@@ -43,6 +45,7 @@ left_at (remove kind) p = None
 left_at (resend now number size round_trip) p = None
 left_at (feedback now round_trip base statuses) p = None
 left_at (choose now choices) p = None
+left_at (take_back number) p = None
 
 -- the packets that leave in these calls
 abbrev pub left_by : List Call → Path → List PacedPacket
@@ -61,6 +64,7 @@ pacer_call (remove kind) p = pacer_remove kind ∷ []
 pacer_call (resend now number size round_trip) p = []
 pacer_call (feedback now round_trip base statuses) p = []
 pacer_call (choose now choices) p = set_rate now (pace_at now choices p) ∷ []
+pacer_call (take_back number) p = []
 
 abbrev pub pacer_calls : List Call → Path → List PacerCall
 pacer_calls [] p = []
@@ -86,6 +90,7 @@ limit_call (remove kind) p = []
 limit_call (resend now number size round_trip) p = limit_resend now number size round_trip ∷ []
 limit_call (feedback now round_trip base statuses) p = []
 limit_call (choose now choices) p = []
+limit_call (take_back number) p = []
 
 -- in front of those before, so that the latest is first
 abbrev pub limit_calls : List Call → Path → List LimitCall → List LimitCall

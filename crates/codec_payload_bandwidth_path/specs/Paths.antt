@@ -2,7 +2,9 @@
 use Rattle.std.specs.Prelude.{ℕ, ◌+◌, ◌-◌, ◌*◌, ◌/◌, ◌%◌, ◌^◌, max, min, nat_lt, if◌then◌else◌, Bool, true, false, List, [], ◌∷◌, slice_get, Option, Some, None}
 use Rattle.codec_payload_bandwidth_estimate.specs.declared.rate.Trial.{Trial}
 use Rattle.codec_payload_bandwidth_estimate.specs.Rates.{trial_rate_at}
-use Rattle.codec_payload_bandwidth_estimator.specs.Estimates.{Estimate, after_feedback as estimate_after, after_tick, carried, new_estimate, pace_of}
+use Rattle.codec_payload_bandwidth_estimator.specs.Estimates.{Estimate, after_feedback as estimate_after, after_sent as estimate_sent, after_tick, carried, new_estimate, pace_of, standing_in}
+use Rattle.codec_payload_bandwidth_estimate.specs.Losses.{usual_of}
+use Rattle.codec_payload_bandwidth_path.specs.declared.path.PathStatistics.{PathStatistics}
 use Rattle.codec_payload_bandwidth_estimator.specs.declared.estimator.PacketFate.{PacketFate}
 use Rattle.codec_payload_bandwidth_layers.specs.Choices.{after_choice as chooser_after, new_chooser, wanted_of}
 use Rattle.codec_payload_bandwidth_layers.specs.declared.chooser.LayerChoice.{LayerChoice}
@@ -65,6 +67,7 @@ with_leaving now None p = p
 with_leaving now (Some packet) p = record p {
   limit = limit_with now packet p.limit;
   departures = with_departure now packet.size p.departures;
+  estimator = estimate_sent now p.estimator;
   fill = fill_after p.fill packet.size;
 }
 
@@ -103,11 +106,11 @@ wanted_by wanted estimate carries = min (wanted * estimate / max carries 1) (2 ^
 abbrev pub chooser_at : ℕ → List LayerChoice → Path → LayerChooser
 chooser_at now choices p = chooser_after now (carried p.estimator) choices p.chooser
 
--- a trial for the next choice begins if one is due
+-- a trial for a higher choice begins if one is due: the next one, or the one after it
 abbrev pub estimate_at : ℕ → List LayerChoice → Path → Estimate
 estimate_at now choices p =
     after_tick now (choice_in (chooser_at now choices p).current choices)
-    (wanted_by (wanted_of 1 choices (chooser_at now choices p)) p.estimator.rate.estimate (carried p.estimator)) p.estimator
+    (wanted_by (wanted_of p.estimator.watch.steps choices (chooser_at now choices p)) p.estimator.rate.estimate (carried p.estimator)) p.estimator
 
 -- what a trial is to fill after the time since the latest choice: at most 6,000 bytes
 abbrev pub earned_by : ℕ → Option Trial → Path → ℕ
@@ -136,4 +139,16 @@ order_by now choices p = record {
   fell = nat_lt (chooser_at now choices p).current p.chooser.current;
   rose = nat_lt p.chooser.current (chooser_at now choices p).current;
   padding = padding_of (after_choice now choices p);
+}
+
+-- ---- statistics
+
+abbrev pub statistics_of : Path → PathStatistics
+statistics_of p = record {
+  estimate = p.estimator.rate.estimate;
+  carries = carried p.estimator;
+  standing = standing_in p.estimator.delays;
+  usual_losses = usual_of p.estimator.losses;
+  trial = p.estimator.trial;
+  is_draining = p.estimator.watch.draining;
 }

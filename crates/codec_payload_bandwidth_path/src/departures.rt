@@ -1,7 +1,7 @@
 //! The packets that left on a path, and what transport-wide feedback says of them.
 
-ghost use Rattle.std.specs.Prelude.{◌≡◌, ◌++◌, ◌≤◌, ◌<◌, ◌+◌, ◌-◌, ◌%◌, IfOk, IfSome, OnOk, drop, length, slice_index_or, take};
-ghost use Rattle.codec_payload_bandwidth_path.specs.Departures.{departed_in, fate_by, fates_of, first_index, heard, index_near, last_time, no_departure, no_departures, open_index, outcome_by, reported_fates, unknown_fate, unknown_fates, with_departure};
+ghost use Rattle.std.specs.Prelude.{◌≡◌, ◌++◌, ◌≤◌, ◌<◌, ◌+◌, ◌-◌, ◌%◌, ◌^◌, IfOk, IfSome, OnOk, drop, length, slice_index_or, take};
+ghost use Rattle.codec_payload_bandwidth_path.specs.Departures.{departed_in, fate_by, fates_of, first_index, heard, index_near, is_latest, last_time, lost_from, lost_of, no_departure, no_departures, open_index, outcome_by, reported_fates, taken_back, unknown_fate, unknown_fates, with_departure};
 
 use codec_payload_bandwidth_estimator::estimator::{PacketFate, PacketOutcome};
 use codec_payload_base::wire::{Ticks, extend_u32};
@@ -185,6 +185,48 @@ impl Departures {
         self.append_reported(begin, from_place(counted, begin - base), fates)
     }
 
+    /// Appends the numbers of the packets that a feedback reports lost, in the order of leaving: of those packets that
+    /// [`Departures::append_fates`] reports.
+    ///
+    /// # Errors
+    ///
+    /// Out of memory: `lost` has some of them.
+    pub(crate) fn append_lost(
+        &self,
+        feedback: &TransportFeedback,
+        lost: &mut Vec<u16>,
+    ) -> Result<(), AllocError>
+        ensures { OnOk result (lost.new.items ≡ lost.old.items ++ lost_of feedback.now.base feedback.now.statuses.items self.now) }
+    {
+        let Some(base) = self.index_of(feedback.base) else {
+            return Ok(());
+        };
+        let counted = up_to(&feedback.statuses, self.count - base);
+        let begin = base.max(self.open());
+        append_lost_from(begin, from_place(counted, begin - base), lost)
+    }
+
+    /// Returns whether the latest packet that left has this number, and no feedback counted of it.
+    fn is_latest(&self, number: u16) -> bool
+        ensures { result ≡ is_latest number self.now }
+    {
+        self.counted < self.count && (self.count - 1) % 65_536 == u64::from(number)
+    }
+
+    /// Takes back the latest packet that left, if it has this number and no feedback counted of it: the next packet gets its number.
+    /// Returns whether that is so. Otherwise nothing changes.
+    pub(crate) fn take_back(&mut self, number: u16) -> bool
+        ensures answer { result ≡ is_latest number self.old }
+        ensures after { self.new ≡ taken_back number self.old }
+    {
+        if !self.is_latest(number) {
+            return false;
+        }
+        self.latest.pop_back();
+        self.count -= 1;
+        true
+    }
+
     /// Notes that a feedback was heard.
     pub(crate) fn hear(&mut self, feedback: &TransportFeedback)
         ensures { self.new ≡ heard feedback.now.base feedback.now.statuses.items self.old }
@@ -220,6 +262,23 @@ fn from_place(statuses: &[Option<u32>], place: u64) -> &[Option<u32>]
         return &[];
     }
     &statuses[place as usize..]
+}
+
+/// Appends the numbers of the packets from `from` on that these statuses report lost.
+fn append_lost_from(
+    from: u64,
+    statuses: &[Option<u32>],
+    lost: &mut Vec<u16>,
+) -> Result<(), AllocError>
+    requires { from + length statuses.now < 2 ^ 64 }
+    ensures { OnOk result (lost.new.items ≡ lost.old.items ++ lost_from from statuses.now) }
+{
+    for (place, status) in statuses.iter().enumerate() {
+        if status.is_none() {
+            lost.push(((from + place as u64) % 65_536) as u16)?;
+        }
+    }
+    Ok(())
 }
 
 /// Returns the time of the last packet that arrived.

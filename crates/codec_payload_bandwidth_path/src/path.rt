@@ -1,13 +1,15 @@
 //! The path to one viewer: what leaves now, what may be retransmitted, and which layers fit.
 
-ghost use Rattle.std.specs.Prelude.{◌≡◌, ◌↔◌, ◌<◌, ◌+◌, IfErr, IfOk, OnErr, OnOk, length};
+ghost use Rattle.std.specs.Prelude.{◌≡◌, ◌↔◌, ◌<◌, ◌+◌, ◌++◌, IfErr, IfOk, OnErr, OnOk, length};
 ghost use Rattle.std.specs.Option.{option_map};
 ghost use Rattle.codec_payload_bandwidth_pacer.specs.Pacing.{bytes_in, deadline_of, pushed, removed, removed_of};
 ghost use Rattle.codec_payload_bandwidth_pacer.specs.Resending.{after_resend, answer_to};
-ghost use Rattle.codec_payload_bandwidth_path.specs.Paths.{after_choice, after_feedback, after_pop, choice_in, earned, estimate_by, fill_after, leaving_of, least_pace, new_path, order_by, padding_of, wanted_by};
+ghost use Rattle.codec_payload_bandwidth_path.specs.Paths.{after_choice, after_feedback, after_pop, choice_in, earned, estimate_by, fill_after, leaving_of, least_pace, new_path, order_by, padding_of, statistics_of, wanted_by};
+ghost use Rattle.codec_payload_bandwidth_path.specs.Departures.{is_latest, lost_of, taken_back};
 ghost use Rattle.codec_payload_bandwidth_pacer.specs.declared.pacer.PacerError.TheVariants as errors;
 
 use crate::departures::Departures;
+use codec_payload_bandwidth_estimate::rate::Trial;
 use codec_payload_bandwidth_estimator::estimator::{BandwidthEstimator, PacketFate};
 use codec_payload_bandwidth_layers::chooser::{LayerChoice, LayerChooser, LayerSettings};
 use codec_payload_bandwidth_pacer::pacer::{
@@ -85,6 +87,23 @@ pub struct PathOrder {
     pub padding: u32,
 }
 
+/// What a path knows, for statistics.
+#[derive(Clone, Copy, Debug, PartialEq, Eq)]
+pub struct PathStatistics {
+    /// The estimate of the rate that the path carries, in bits per second.
+    pub estimate: u64,
+    /// What is left of it for first transmissions, in bits per second.
+    pub carries: u64,
+    /// How long packets stand in the queue of the path, in microseconds.
+    pub standing: u64,
+    /// The usual losses, in thousandths.
+    pub usual_losses: u64,
+    /// The trial of a higher rate that is under way.
+    pub trial: Option<Trial>,
+    /// Whether a queue is being emptied: the pace is 3/4 of the estimate.
+    pub is_draining: bool,
+}
+
 /// The path to one viewer: a pacer, a limit of retransmissions, a choice of layers, and an estimate of what the path carries.
 ///
 /// Push the packets of all streams that go to the viewer, send what [`ViewerPath::pop`] returns with the number that it gets, hand
@@ -158,6 +177,7 @@ impl ViewerPath {
     {
         let packet = self.pacer.pop(now)?;
         let number = self.departures.note(now, packet.size);
+        self.estimator.sent(now);
         if !matches!(packet.kind, PacedKind::Resent) {
             self.limit.sent(now, packet.size);
         }
@@ -206,6 +226,32 @@ impl ViewerPath {
         Ok(())
     }
 
+    /// Appends the transport-wide numbers of the packets that a feedback reports lost, in the order of leaving. Call it before
+    /// [`ViewerPath::feedback`] with the same feedback: then each lost packet is named once, whatever later feedback repeats.
+    ///
+    /// # Errors
+    ///
+    /// Out of memory: `lost` has some of them.
+    pub fn append_lost(
+        &self,
+        feedback: &TransportFeedback,
+        lost: &mut Vec<u16>,
+    ) -> Result<(), AllocError>
+        ensures { OnOk result (lost.new.items ≡ lost.old.items ++ lost_of feedback.now.base feedback.now.statuses.items self.now.departures) }
+    {
+        self.departures.append_lost(feedback, lost)
+    }
+
+    /// Takes back the latest packet that [`ViewerPath::pop`] returned, if it has this number and was not sent: the next packet gets its
+    /// number, and feedback has no gap. Returns whether that is so: `false` if another packet left after it, or if feedback counted of
+    /// it. Then nothing changes. A packet that is taken back still counts for the pace and for the share of retransmissions.
+    pub fn take_back(&mut self, number: u16) -> bool
+        ensures answer { result ≡ is_latest number self.old.departures }
+        ensures after { self.new ≡ record self.old { departures = taken_back number self.old.departures } }
+    {
+        self.departures.take_back(number)
+    }
+
     /// Chooses layers, begins and fills trials, and sets the pace, which is never below the rate of the first choice and a quarter.
     /// List the choices from the lowest to the highest.
     pub fn choose(&mut self, now: Ticks, choices: &[LayerChoice]) -> PathOrder
@@ -217,7 +263,7 @@ impl ViewerPath {
         let carries = self.estimator.carries();
         let choice = self.chooser.choose(now, carries, choices);
         let wanted = wanted_by(
-            self.chooser.wanted(1, choices),
+            self.chooser.wanted(self.estimator.steps(), choices),
             self.estimator.estimate(),
             carries,
         );
@@ -261,6 +307,20 @@ impl ViewerPath {
         ensures { result ≡ self.now.estimator.rate.estimate }
     {
         self.estimator.estimate()
+    }
+
+    /// Returns what the path knows, for statistics.
+    pub fn statistics(&self) -> PathStatistics
+        ensures { result ≡ statistics_of self.now }
+    {
+        PathStatistics {
+            estimate: self.estimator.estimate(),
+            carries: self.estimator.carries(),
+            standing: self.estimator.standing(),
+            usual_losses: self.estimator.usual_losses(),
+            trial: self.estimator.trial(),
+            is_draining: self.estimator.is_draining(),
+        }
     }
 
     /// Returns the index of the current choice.

@@ -1,5 +1,6 @@
 -- The contents of a handle before and after a call.
 use Rattle.std.specs.Prelude.{◌≡◌, ◌⊎◌, ℕ, Bool, true, false, Option, Some, None}
+use Rattle.codec_payload_bandwidth_offer.specs.Offers.{Offer}
 use Rattle.codec_payload_bandwidth_pacer.specs.Resending.{Limit}
 use Rattle.codec_payload_bandwidth_path.specs.Paths.{Path}
 use Rattle.codec_payload_fec.specs.Stores.{Store}
@@ -43,6 +44,15 @@ abbrev pub OnFec : Option PathObject → (FecHeld → FecHeld → Type 0) → Op
 OnFec (Some (objects.FecReceiver r)) Does after = StaysFec (Does (held_of r.value)) after
 OnFec _ Does after = Unit {0}
 
+-- the same for the rate that a publisher is told
+abbrev pub StaysOffer : (Offer → Type 0) → Option PathObject → Type 0
+StaysOffer Done (Some (objects.RateOffer s)) = Done s.value
+StaysOffer Done _ = ⊥
+
+abbrev pub OnOffer : Option PathObject → (Offer → Offer → Type 0) → Option PathObject → Type 0
+OnOffer (Some (objects.RateOffer r)) Does after = StaysOffer (Does r.value) after
+OnOffer _ Does after = Unit {0}
+
 abbrev pub is_path : PathObject → Bool
 is_path (objects.Path _) = true
 is_path _ = false
@@ -58,6 +68,10 @@ is_store _ = false
 abbrev pub is_fec_receiver : PathObject → Bool
 is_fec_receiver (objects.FecReceiver _) = true
 is_fec_receiver _ = false
+
+abbrev pub is_offer : PathObject → Bool
+is_offer (objects.RateOffer _) = true
+is_offer _ = false
 
 -- status 34: the handle is empty; status 35: it holds another type; the handle is unchanged
 abbrev pub Refuses : (PathObject → Bool) → Option PathObject → ℕ → Option PathObject → Type 0

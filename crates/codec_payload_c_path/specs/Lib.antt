@@ -7,6 +7,8 @@ pub mod Held
 pub mod Kinds
 pub mod Limits
 pub mod Owned
+pub mod PathReports
 pub mod Paths
+pub mod RateOffers
 pub mod Settings
 pub mod Writing

@@ -1,6 +1,7 @@
 //! The contents of a handle.
 
 use codec_payload_bandwidth_layers::chooser::LayerChoice;
+use codec_payload_bandwidth_offer::offer::RateOffer;
 use codec_payload_bandwidth_pacer::resends::ResendLimit;
 use codec_payload_bandwidth_path::path::ViewerPath;
 use codec_payload_fec::store::PacketStore;
@@ -27,4 +28,5 @@ pub enum PathObject {
     ResendLimit(Box<ResendLimit>),
     PacketStore(Box<PacketStore>),
     FecReceiver(Box<CallerFec>),
+    RateOffer(Box<RateOffer>),
 }

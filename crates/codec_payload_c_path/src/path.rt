@@ -204,7 +204,7 @@ pub fn resend(
 }
 
 /// Returns the status for control information that is not transport-wide feedback.
-fn fault_status(fault: TransportFault) -> u32
+pub(crate) fn fault_status(fault: TransportFault) -> u32
     ensures { result ≡ fault_status fault }
 {
     match fault {

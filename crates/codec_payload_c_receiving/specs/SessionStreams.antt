@@ -7,7 +7,8 @@ use Rattle.codec_payload_jitter.specs.Missing.{missing_numbers}
 use Rattle.codec_payload_jitter.specs.declared.waiting.WaitLimits.{WaitLimits}
 use Rattle.codec_payload_session.specs.Ports.{receiver_among, taken_in, trips_of, waits_of}
 use Rattle.codec_payload_session_requests.specs.Requests.{request_counts_of, round_trip_of}
-use Rattle.codec_payload_session_stream.specs.Streams.{is_of}
+use Rattle.codec_payload_session_requests.specs.Probes.{probes_of}
+use Rattle.codec_payload_session_stream.specs.Streams.{is_of, told_receiver}
 use Rattle.codec_payload_session_stream.specs.declared.stream.Stage.{Stage}
 use Rattle.codec_payload_session_stream.specs.declared.stream.Stage.TheVariants as stages
 use Rattle.codec_payload_session_stream.specs.declared.stream.StreamInfo.{StreamInfo}
@@ -70,7 +71,8 @@ pub record TellsStream (s : StreamState) (i : SessionStream) : Type 0 where
   pub round_trip : i.round_trip ≡ unwrap_or (round_trip_of s.feedback) 0
   pub numbers_requested : i.numbers_requested ≡ (request_counts_of s.feedback).numbers
   pub keyframes_requested : i.keyframes_requested ≡ (request_counts_of s.feedback).keyframes
-  pub counts : TellsCounts s.receiver false i.counts
+  pub counts : TellsCounts (told_receiver s) false i.counts
+  pub probes : i.probes ≡ probes_of s.probes
 
 -- the same from what a session says of a stream
 pub record DescribesStream (info : StreamInfo) (counts : ReceiverCountsInfo) (i : SessionStream) : Type 0 where
@@ -86,6 +88,7 @@ pub record DescribesStream (info : StreamInfo) (counts : ReceiverCountsInfo) (i 
   pub numbers_requested : i.numbers_requested ≡ info.requests.numbers
   pub keyframes_requested : i.keyframes_requested ≡ info.requests.keyframes
   pub counts_are : i.counts ≡ counts
+  pub probes : i.probes ≡ info.probes
 
 -- the counters of the receiver of a stream that was removed
 pub record HasLastCounts (info : StreamInfo) (c : ReceiverCountsInfo) : Type 0 where

@@ -4,9 +4,7 @@ ghost use Rattle.std.specs.Prelude.{◌≡◌, ◌≢◌, slice_get};
 ghost use Rattle.codec_payload_c_receiving.specs.SessionStreams.{DescribesStream, HasLastCounts, SetsRoundTrip, SetsWaitLimits, TellsLast, TellsMissingOf, TellsSessionCounts, TellsStreamAt, TellsWants, end_time, end_reason, receiver_in, stage_number};
 ghost use Rattle.codec_payload_c_receiving.specs.StreamReceivers.{wait_limits_given};
 
-use crate::receiver::{
-    ReceiverCountsInfo, WaitLimits, counts_by, counts_from, missing_into, waiting_for,
-};
+use crate::receiver::{ReceiverCountsInfo, WaitLimits, counts_from, missing_into, waiting_for};
 use crate::session::number_of;
 use codec_payload_handle::object::PortSession;
 use codec_payload_handle::status;
@@ -54,8 +52,10 @@ pub struct SessionStream {
     pub payload_type: u8,
     /// Whether `round_trip` is set.
     pub has_round_trip: bool,
-    /// The counters of its receiver.
+    /// The counters of its receiver, without `probes`.
     pub counts: ReceiverCountsInfo,
+    /// How many retransmissions were of numbers that came before, modulo 2^64.
+    pub probes: u64,
 }
 
 /// Returns the number of a stage.
@@ -125,6 +125,7 @@ fn described(info: &StreamInfo, counts: ReceiverCountsInfo) -> SessionStream
         payload_type: info.payload_type,
         has_round_trip: info.round_trip.is_some(),
         counts,
+        probes: info.probes,
     }
 }
 
@@ -160,7 +161,10 @@ pub fn stream_at(port: &PortSession, place: usize, stream: &mut SessionStream) -
     ) else {
         return status::NONE;
     };
-    *stream = described(&info, counts_by(receiver));
+    *stream = described(
+        &info,
+        counts_from(&info.counters, info.held, receiver.ssrc()),
+    );
     status::OK
 }
 

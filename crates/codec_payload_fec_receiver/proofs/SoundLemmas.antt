@@ -419,7 +419,7 @@ module _ (sent : ℕ → Option (List ℕ)) where
   next_stands ss (Some highest) s is h =
       record { a = h.a; low = h.low; high = h.high; early = h.early; first = first_kept s ∙ h.first; holds = (next_holds ss h.a s is h.holds).holds }
 
-  after_stands : (ss : FecSettings) (top : Option ℕ) (s : State) → Stands ss top s → Stands ss top (after_tries s)
+  pub after_stands : (ss : FecSettings) (top : Option ℕ) (s : State) → Stands ss top s → Stands ss top (after_tries s)
   after_stands ss None s h = (let P : Option ℕ → Type 0 = λ o. IfSome o (λ n. n < 65536) in subst P (sym (after_first s)) h.0, λ a. after_holds ss a s (h.1 a))
   after_stands ss (Some highest) s h = record { a = h.a; low = h.low; high = h.high; early = h.early; first = after_first s ∙ h.first; holds = after_holds ss h.a s h.holds }
 

@@ -36,7 +36,7 @@ struct OpenFec {
     is_due: bool,
 }
 
-/// What becomes of a packet of FEC that is tried.
+/// What a try with a packet of FEC shows.
 #[derive(Clone, Copy, Debug, PartialEq, Eq)]
 enum Verdict {
     /// One packet is missing.
@@ -151,7 +151,7 @@ fn first_due(fecs: &[OpenFec]) -> Option<usize>
     fecs.iter().position(|fec| fec.is_due)
 }
 
-/// Returns what becomes of a packet of FEC.
+/// Returns what a try with a packet of FEC shows.
 fn verdict_on(store: &PacketStore, bytes: &[u8]) -> Verdict
     ensures { result ≡ verdict_on (found_in store.now.slots) (fec_at bytes.now) }
 {
@@ -313,7 +313,7 @@ impl FecReceiver {
         self.fecs[place].is_due = false;
     }
 
-    /// Returns what becomes of the packet of FEC at a place.
+    /// Returns what a try with the packet of FEC at a place shows.
     fn verdict_at(&self, place: usize) -> Verdict
         requires { place < length self.now.fecs }
         ensures { result ≡ verdict_on (found_in self.now.store.slots) (fec_at (fec_at_place place self.now).bytes) }

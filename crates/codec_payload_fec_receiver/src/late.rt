@@ -1,13 +1,11 @@
 //! Elements of header extensions that a sender fills in late.
 
-ghost use Rattle.std.specs.Prelude.{◌≡◌, ◌++◌, ◌+◌, ◌≤◌, length, IfOk, IfSome, IsTrue, OnOk, Option};
-ghost use Rattle.codec_payload_base.specs.Answers.{Finds};
-ghost use Rattle.codec_payload_rtp.specs.Elements.{cut_element, element_at, element_of};
+ghost use Rattle.std.specs.Prelude.{◌≡◌, ◌++◌, ◌+◌, length, IfOk, IsTrue, OnOk, Option};
 ghost use Rattle.codec_payload_rtp.specs.RtpPackets.{FitsHeader, header_fits, packet_bytes};
 ghost use Rattle.codec_payload_rtp.specs.RtpValues.{extension_of, header_of, packet_of};
 ghost use Rattle.codec_payload_fec_receiver.specs.Late.{is_id, front_of, plain_bytes, zeroed, zeroed_extension, zeroed_value, zeros_from};
 
-use codec_payload_rtp::elements::{Element, ElementForm};
+use codec_payload_rtp::elements::{ElementForm, front_element};
 use codec_payload_rtp::rtp::{HeaderExtension, PacketHeader, RtpPacket};
 use std::alloc::{AllocError, Global};
 
@@ -63,42 +61,6 @@ fn put_value(from: Option<usize>, value: &[u8], out: &mut Vec<u8>) -> Result<(),
     let kept = from.min(value.len());
     out.extend_from_slice(&value[..kept])?;
     out.resize(out.len() + (value.len() - kept), 0)
-}
-
-/// Returns the element with this id and `len` bytes, and the bytes after it. `None`: it passes the end.
-fn cut_front(id: u8, len: usize, bytes: &[u8]) -> Option<(Element<'_>, &[u8])>
-    ensures value { Finds (λ x. (element_of x.0, x.1.now)) result (cut_element id len bytes.now) }
-    ensures sizes { IfSome result (λ x. length x.0.bytes.now + length x.1.now ≤ length bytes.now) }
-{
-    if bytes.len() < len {
-        return None;
-    }
-    let (bytes, rest) = bytes.split_at(len);
-    Some((Element { id, bytes }, rest))
-}
-
-/// Returns the element at the front, and the bytes after it.
-#[tactic(auto, unfolding(codec_payload_rtp::specs::Elements::element_at))]
-fn front_element(form: ElementForm, bytes: &[u8]) -> Option<(Element<'_>, &[u8])>
-    ensures value { Finds (λ x. (element_of x.0, x.1.now)) result (element_at form bytes.now) }
-    ensures sizes { IfSome result (λ x. length x.0.bytes.now + length x.1.now ≤ length bytes.now) }
-{
-    match form {
-        ElementForm::OneByte => {
-            let (b, rest) = bytes.split_first()?;
-            let id = b / 16;
-            if id == 0 || id == 15 {
-                return None;
-            }
-            cut_front(id, usize::from(b % 16) + 1, rest)
-        }
-        ElementForm::TwoByte => {
-            let [id, len, rest @ ..] = bytes else {
-                return None;
-            };
-            cut_front(*id, usize::from(*len), rest)
-        }
-    }
 }
 
 /// Appends what is at the front: a byte of padding, or an element, with zeros if it is filled in late. If there is neither, appends all.
@@ -193,7 +155,7 @@ fn written(
 /// # Errors
 ///
 /// Out of memory.
-pub(crate) fn plain_bytes(
+pub fn plain_bytes(
     alloc: Global,
     late: &LateIds,
     packet: &RtpPacket<'_>,

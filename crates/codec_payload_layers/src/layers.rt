@@ -73,8 +73,8 @@ fn is_lowest_layer(flags: u8, behind: &[u8]) -> bool
     }
 }
 
-/// Returns the bytes behind the PictureID of one or two bytes, if there is one.
-fn behind_id(flags: u8, bytes: &[u8]) -> &[u8]
+/// Returns the bytes behind the PictureID of one or two bytes, if the bit I (0x80) of `flags` is set.
+pub fn behind_id(flags: u8, bytes: &[u8]) -> &[u8]
     ensures { result.now ≡ behind_id (has_bit flags 7) bytes.now }
 {
     if flags & 0x80 == 0 {

@@ -79,7 +79,7 @@ below_few n (x ∷ xs) = by (ltb x n) (below_few n xs)
     by true few = omega (arith, few)
     by false few = omega (arith, few)
 
--- different numbers below another are at most so many
+-- at most n different numbers are below n
 pub few_below : (n : ℕ) (xs : List ℕ) → Falls xs → AllBelow n xs → length xs ≤ n
 few_below n [] f h = omega arith
 few_below n (x ∷ xs) f h = omega (arith, h.0, few_below x xs f.1 f.0)

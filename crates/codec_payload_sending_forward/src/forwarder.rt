@@ -356,7 +356,7 @@ impl Forwarder {
     /// - AV1: the first packet of a coded video sequence: N is set, and Z is clear (RTP payload format for AV1, section 4.4).
     /// - Other codecs: any packet.
     ///
-    /// It copies the payload once, and a payload of VP9 twice. Once `out` has grown to the largest packet, it does not allocate.
+    /// It copies the payload once, and a payload of VP9, or of VP8 with padding, twice. Once `out` has grown to the largest packet, it does not allocate.
     ///
     /// # Errors
     ///

@@ -98,7 +98,7 @@ pub(crate) fn count_above(numbers: &VecDeque<u64>, number: u64) -> usize
     low
 }
 
-/// Returns whether that number is one of them, of which so many are above it.
+/// Returns whether that number is one of these, of which `count` are above it.
 fn contains(numbers: &VecDeque<u64>, number: u64, count: usize) -> bool
     requires falls { Falls numbers.now.items }
     requires count { count ≡ above number numbers.now.items }
@@ -188,7 +188,7 @@ impl Renumbering {
         self.sent_below(number, count_above(&self.left_out, number))
     }
 
-    /// Does the same if so many of the packets that were left out are above the number.
+    /// Does the same if `count` of the packets that were left out are above the number.
     fn sent_below(&self, number: u64, count: usize) -> u16
         requires { count ≡ above number self.now.left_out }
         ensures { is_in number self.now.left_out ≡ false → result ≡ sent_as self.now number }

@@ -31,7 +31,7 @@ use Rattle.codec_payload_session_formats.specs.Names.{names_after}
 use Rattle.codec_payload_rtp.specs.RtpReading.{rtp_at}
 use Rattle.codec_payload_session_requests.specs.Requests.{Asking, heard_by, number_at, wait_by}
 use Rattle.codec_payload_session.proofs.ReportingLemmas.{exchanged_keeps}
-use Rattle.codec_payload_session_stream.specs.Streams.{Drains, Follows, Plays, RequestsBy, RestsBy, Steps, StepsBy, Takes, end_of, heard_unless, is_accepted, is_no_memory, is_of, is_probation, late_followed, late_noted, left_when, payload_size, received, trip_if, trip_when, trips_where, waiting_for, waiting_if, waiting_when, waiting_where, with_edges}
+use Rattle.codec_payload_session_stream.specs.Streams.{Drains, Follows, Plays, RequestsBy, RestsBy, Steps, StepsBy, Takes, end_of, heard_unless, is_accepted, is_no_memory, is_of, is_probation, late_followed, late_noted, left_when, payload_size, received, trip_if, trip_when, trips_where, waiting_for, waiting_if, waiting_when, waiting_where, with_edges, probed}
 use Rattle.codec_payload_session_stream.specs.Turns.{AreQuiet}
 use Rattle.codec_payload_session.specs.Turns.{TakesTurn, ended_after, kept_after}
 use Rattle.codec_payload_session_formats.specs.declared.formats.Format.{Format}
@@ -116,10 +116,10 @@ takes_taken : (now : Ticks) (probation : ℕ) (bytes : List ℕ) (s : StreamStat
     → t.taken ≡ taken_unless (is_no_memory told) s.taken
 takes_taken now probation bytes s told t got = ap (λ (x : StreamState). x.taken) got.3 ∙ by_test (is_no_memory told)
   where
-    same : (late_followed (is_ok told) now.0 bytes (received now.0 bytes (is_accepted told) got.0 (with_edges got.0 got.1 s))).taken ≡ s.taken
-    same = late_taken (is_ok told) now.0 bytes (received now.0 bytes (is_accepted told) got.0 (with_edges got.0 got.1 s)) ∙ received_taken now.0 bytes (is_accepted told) got.0 (with_edges got.0 got.1 s)
+    same : (late_followed (is_ok told) now.0 bytes (received now.0 bytes (is_accepted told) got.0 (with_edges got.0 got.1 (probed bytes told s)))).taken ≡ s.taken
+    same = late_taken (is_ok told) now.0 bytes (received now.0 bytes (is_accepted told) got.0 (with_edges got.0 got.1 (probed bytes told s))) ∙ received_taken now.0 bytes (is_accepted told) got.0 (with_edges got.0 got.1 (probed bytes told s))
 
-    by_test : (b : Bool) → (heard_unless b now.0 probation (is_accepted told) (payload_size (rtp_at bytes)) (late_followed (is_ok told) now.0 bytes (received now.0 bytes (is_accepted told) got.0 (with_edges got.0 got.1 s)))).taken ≡ taken_unless b s.taken
+    by_test : (b : Bool) → (heard_unless b now.0 probation (is_accepted told) (payload_size (rtp_at bytes)) (late_followed (is_ok told) now.0 bytes (received now.0 bytes (is_accepted told) got.0 (with_edges got.0 got.1 (probed bytes told s))))).taken ≡ taken_unless b s.taken
     by_test true = same
     by_test false = ap next same
 

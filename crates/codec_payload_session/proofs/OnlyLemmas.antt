@@ -17,7 +17,7 @@ use Rattle.codec_payload_session_formats.specs.Formats.{is_video}
 use Rattle.codec_payload_session_formats.specs.declared.formats.Format.{Format}
 use Rattle.codec_payload_session_requests.specs.Late.{limit_by}
 use Rattle.codec_payload_session_stream.specs.Changes.{any_left_behind, are_alike, is_left_behind, is_playing, takes_turns}
-use Rattle.codec_payload_session_stream.specs.Streams.{StreamState, Takes, heard_unless, is_accepted, is_no_memory, is_of, late_followed, late_noted, payload_size, received, waiting_for, with_edges}
+use Rattle.codec_payload_session_stream.specs.Streams.{StreamState, Takes, heard_unless, is_accepted, is_no_memory, is_of, late_followed, late_noted, payload_size, received, waiting_for, with_edges, probed}
 use Rattle.codec_payload_session_stream.specs.Waking.{ssrcs_of}
 use Rattle.codec_payload_session_stream.specs.declared.arrival.Arrival.{Arrival}
 use Rattle.codec_payload_session.specs.Arrivals.{Feeds, Port}
@@ -45,10 +45,10 @@ heard_format false now probation accepted size s = refl
 
 takes_format : (now : Ticks) (probation : ℕ) (bytes : List ℕ) (s : StreamState) (answer : Result Outcome ReceiveError) (t : StreamState) → Takes now probation bytes s answer t → t.format ≡ s.format
 takes_format now probation bytes s answer t got =
-    let r : StreamState = received now.0 bytes (is_accepted answer) got.0 (with_edges got.0 got.1 s) in
+    let r : StreamState = received now.0 bytes (is_accepted answer) got.0 (with_edges got.0 got.1 (probed bytes answer s)) in
     ap (λ (x : StreamState). x.format) got.3 ∙ heard_format (is_no_memory answer) now.0 probation (is_accepted answer) (payload_size (rtp_at bytes)) (late_followed (is_ok answer) now.0 bytes r)
     ∙ late_format (is_ok answer) now.0 bytes r
-    ∙ received_format now.0 bytes (is_accepted answer) got.0 (with_edges got.0 got.1 s)
+    ∙ received_format now.0 bytes (is_accepted answer) got.0 (with_edges got.0 got.1 (probed bytes answer s))
 
 -- ---- the only stream of an SSRC
 

@@ -16,7 +16,7 @@ use Rattle.codec_payload_receiver.specs.Sessions.{Session as Receiver}
 use Rattle.std.specs.declared.result.Result.{Result}
 use Rattle.codec_payload_rtp.specs.RtpReading.{rtp_at}
 use Rattle.codec_payload_session_stream.specs.Trips.{with_round_trip, with_round_trips}
-use Rattle.codec_payload_session_stream.specs.Streams.{Drains, RequestsBy, RestsBy, Steps, StepsBy, is_of, Follows, StreamState, Takes, end_of, heard_unless, is_accepted, is_no_memory, is_probation, late_followed, late_noted, left_when, payload_size, received, trip_when, waiting_for, waiting_when, with_edges}
+use Rattle.codec_payload_session_stream.specs.Streams.{Drains, RequestsBy, RestsBy, Steps, StepsBy, is_of, Follows, StreamState, Takes, end_of, heard_unless, is_accepted, is_no_memory, is_probation, late_followed, late_noted, left_when, payload_size, received, trip_when, waiting_for, waiting_when, with_edges, probed}
 use Rattle.codec_payload_jitter.specs.declared.jitter.WaitLimits.{WaitLimits}
 use Rattle.codec_payload_session.specs.Arrivals.{has_ssrc}
 use Rattle.codec_payload_session_stream.specs.Changes.{any_left_behind, are_alike, continued, is_left_behind, is_playing, left_behind, takes_turns}
@@ -104,10 +104,10 @@ heard_ssrc false now probation accepted size s = refl
 
 pub takes_ssrc : (now : Ticks) (probation : ℕ) (bytes : List ℕ) (s : StreamState) (answer : Result Outcome ReceiveError) (t : StreamState) → Takes now probation bytes s answer t → t.ssrc ≡ s.ssrc
 takes_ssrc now probation bytes s answer t got =
-    let r : StreamState = received now.0 bytes (is_accepted answer) got.0 (with_edges got.0 got.1 s) in
+    let r : StreamState = received now.0 bytes (is_accepted answer) got.0 (with_edges got.0 got.1 (probed bytes answer s)) in
     ap (λ (x : StreamState). x.ssrc) got.3 ∙ heard_ssrc (is_no_memory answer) now.0 probation (is_accepted answer) (payload_size (rtp_at bytes)) (late_followed (is_ok answer) now.0 bytes r)
     ∙ late_ssrc (is_ok answer) now.0 bytes r
-    ∙ received_ssrc now.0 bytes (is_accepted answer) got.0 (with_edges got.0 got.1 s)
+    ∙ received_ssrc now.0 bytes (is_accepted answer) got.0 (with_edges got.0 got.1 (probed bytes answer s))
 
 drains_ssrc : (o : Option Ending) (s t : StreamState) → Drains o s t → t.ssrc ≡ s.ssrc
 drains_ssrc None s t got = ap (λ (x : StreamState). x.ssrc) got

@@ -1,4 +1,5 @@
 pub mod Late
 pub mod Named
+pub mod Probes
 pub mod Requests
 pub mod Transports

@@ -77,7 +77,7 @@ pub fn limit_by(late: &Option<Box<AdaptiveWait>>) -> Option<u64>
 }
 
 /// Returns the number of a packet; a retransmission has its original number (RFC 4588, section 4).
-fn number_of(format: &Format, datagram: &ParsedDatagram<'_>) -> Option<u16>
+pub(crate) fn number_of(format: &Format, datagram: &ParsedDatagram<'_>) -> Option<u16>
     ensures { result ≡ number_at format.now datagram.now }
 {
     match datagram.packet() {

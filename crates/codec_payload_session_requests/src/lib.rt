@@ -3,5 +3,6 @@
 
 pub mod late;
 pub mod named;
+pub mod probes;
 pub mod requests;
 pub mod transports;

@@ -28,7 +28,7 @@ use Rattle.codec_payload_session.specs.Reporting.{all_reported, is_chosen, room_
 use Rattle.codec_payload_session_stream.specs.Reports.{reported_if, noted, noted_at, reported_by, noted_in as clocks_in}
 use Rattle.codec_payload_session_formats.specs.Sorting.{Sorted, sorted_at}
 use Rattle.codec_payload_session_formats.specs.Sorting as sorted
-use Rattle.codec_payload_session_stream.specs.Streams.{Takes, accepted_after, heard_unless, is_accepted, is_no_memory, is_of, is_probation, late_followed, left_when, payload_size, received, stage_after, waiting_if, asked_for, asked_unless, is_ending, with_edges}
+use Rattle.codec_payload_session_stream.specs.Streams.{Takes, accepted_after, heard_unless, is_accepted, is_no_memory, is_of, is_probation, late_followed, left_when, payload_size, received, stage_after, waiting_if, asked_for, asked_unless, is_ending, with_edges, probed}
 use Rattle.codec_payload_session_stream.specs.Turns.{AreQuiet}
 use Rattle.codec_payload_session.specs.Turns.{TakesTurn, kept_after}
 use Rattle.codec_payload_session_stream.specs.Units.{Event}
@@ -209,11 +209,11 @@ by_took false false now probation size told x z memory is same = record {
 
 took : (now : Ticks) (datagram : Vec ℕ) (probation : ℕ) (x : StreamState) (told : Result Outcome ReceiveError) (y : StreamState) → Takes now probation datagram.items x told y → Took probation told x y
 took now datagram probation x told y got =
-    let edged : StreamState = with_edges got.0 got.1 x in
+    let edged : StreamState = with_edges got.0 got.1 (probed datagram.items told x) in
     let after : StreamState = late_followed (is_ok told) now.0 datagram.items (received now.0 datagram.items (is_accepted told) got.0 edged) in
     subst (λ (z : StreamState). Took probation told x z) (sym got.3)
     (by_took (is_no_memory told) (is_accepted told) now.0 probation (payload_size (rtp_at datagram.items)) told x after refl refl
-    (edged_same got.0 got.1 x after (both_same (is_ok told) (is_accepted told) now.0 datagram.items got.0 edged)))
+    (edged_same got.0 got.1 datagram.items told x after (both_same (is_ok told) (is_accepted told) now.0 datagram.items got.0 edged)))
 
 -- an answer that says that the stream accepted the datagram
 arrival_accepted : (a b s p : ℕ) (told : Result Outcome ReceiveError) → accepted_as a b (Ok (arrival_of s p told)) ≡ true → (is_same a b s p ≡ true) × (is_accepted told ≡ true)

@@ -34,7 +34,7 @@ use Rattle.codec_payload_session_formats.specs.Names.{names_after}
 use Rattle.codec_payload_session_requests.specs.Requests.{heard_by, number_at, wait_by}
 use Rattle.codec_payload_session_formats.specs.Sorting.{Sorted, sorted_at}
 use Rattle.codec_payload_session_formats.specs.Sorting as sorted
-use Rattle.codec_payload_session_stream.specs.Streams.{Takes, accepted_after, heard_unless, is_accepted, is_no_memory, is_of, late_followed, late_noted, payload_size, received, stage_after, waiting_for, waiting_if, waiting_when, asked_for, asked_unless, is_ending, with_edges}
+use Rattle.codec_payload_session_stream.specs.Streams.{Takes, accepted_after, heard_unless, is_accepted, is_no_memory, is_of, late_followed, late_noted, payload_size, received, stage_after, waiting_for, waiting_if, waiting_when, asked_for, asked_unless, is_ending, with_edges, probed}
 use Rattle.codec_payload_session_stream.specs.Telephone.{event_of as telephone_event}
 use Rattle.codec_payload_session_stream.specs.Turns.{AreQuiet, event_of}
 use Rattle.codec_payload_session.specs.Turns.{TakesTurn, kept_after}
@@ -98,9 +98,9 @@ both_same b accepted now bytes r s =
       accepted = two.accepted ∙ one.accepted;
     }
 
--- the edges of the pictures change nothing of this
-pub edged_same : (r : Receiver) (followed : Option Followed) (s t : StreamState) → Same (with_edges r followed s) t → Same s t
-edged_same r followed s t same = record { ssrc_is = same.ssrc_is; format = same.format; last = same.last; stage = same.stage; accepted = same.accepted }
+-- the edges of the pictures, and the probes, change nothing of this
+pub edged_same : (r : Receiver) (followed : Option Followed) (bytes : List ℕ) (told : Result Outcome ReceiveError) (s t : StreamState) → Same (with_edges r followed (probed bytes told s)) t → Same s t
+edged_same r followed bytes told s t same = record { ssrc_is = same.ssrc_is; format = same.format; last = same.last; stage = same.stage; accepted = same.accepted }
 
 by_probation : (b : Bool) (why : Ending) → ending_of (cond b stages.Playing stages.Probation) ≡ Some why → None ≡ Some why
 by_probation true why is = is
@@ -151,11 +151,11 @@ by_memory false now micros datagram probation accepted size x z told answer is s
 fed : (now : Ticks) (micros : Option ℕ) (datagram : Vec ℕ) (probation : ℕ) (x : StreamState) (told : Result Outcome ReceiveError) (y : StreamState) (answer : Result Arrival AllocError)
     → Takes now probation datagram.items x told y → Arrives (is_no_memory told) (arrival_of x.ssrc x.format.payload_type told) answer → Fed now micros datagram answer x y
 fed now micros datagram probation x told y answer got arrives =
-    let edged : StreamState = with_edges got.0 got.1 x in
+    let edged : StreamState = with_edges got.0 got.1 (probed datagram.items told x) in
     let after : StreamState = late_followed (is_ok told) now.0 datagram.items (received now.0 datagram.items (is_accepted told) got.0 edged) in
     subst (λ (z : StreamState). Fed now micros datagram answer x z) (sym got.3)
     (by_memory (is_no_memory told) now micros datagram probation (is_accepted told) (payload_size (rtp_at datagram.items)) x after told answer arrives
-    (edged_same got.0 got.1 x after (both_same (is_ok told) (is_accepted told) now.0 datagram.items got.0 edged)))
+    (edged_same got.0 got.1 datagram.items told x after (both_same (is_ok told) (is_accepted told) now.0 datagram.items got.0 edged)))
 
 -- ---- calls that give no stream a datagram
 

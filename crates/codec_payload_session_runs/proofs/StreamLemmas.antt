@@ -22,7 +22,7 @@ use Rattle.codec_payload_session_formats.specs.Names.{names_after}
 use Rattle.codec_payload_session_requests.specs.Requests.{Asking, answered_if, heard_by, is_heard, number_at, wait_by}
 use Rattle.codec_payload_session_stream.specs.Trips.{with_round_trip}
 use Rattle.codec_payload_session_requests.specs.declared.requests.WaitRange.{WaitRange}
-use Rattle.codec_payload_session_stream.specs.Streams.{Drains, Follows, Plays, RequestsBy, RestsBy, Steps, StepsBy, Takes, accepted_after, end_by, end_of, heard_unless, is_accepted, is_keyframe, is_no_memory, is_probation, late_followed, late_noted, left_when, payload_size, received, stage_after, stage_left, step_of, step_with, waiting_for, Edges, edge_rules_of, with_edges}
+use Rattle.codec_payload_session_stream.specs.Streams.{Drains, Follows, Plays, RequestsBy, RestsBy, Steps, StepsBy, Takes, accepted_after, end_by, end_of, heard_unless, is_accepted, is_keyframe, is_no_memory, is_probation, late_followed, late_noted, left_when, payload_size, received, stage_after, stage_left, step_of, step_with, waiting_for, Edges, edge_rules_of, with_edges, probed}
 use Rattle.codec_payload_session_stream.specs.Turns.{event_of}
 use Rattle.codec_payload_session.specs.Turns.{kept_after}
 use Rattle.codec_payload_session_formats.specs.declared.formats.Format.{Format}
@@ -344,7 +344,7 @@ accepted_given (Err e) is = absurd (cc)
 takes_heard : (now : Ticks) (datagram : Vec ℕ) (probation : ℕ) (x : StreamState) (told : Result Outcome ReceiveError) (y : StreamState) → (got : Takes now probation datagram.items x told y)
     → Heard (is_ok told) x.ssrc x.format (own_waits x) x.announced x.stage got.0 y
 takes_heard now datagram probation x told y got =
-    let edged : StreamState = with_edges got.0 got.1 x in
+    let edged : StreamState = with_edges got.0 got.1 (probed datagram.items told x) in
     let r : StreamState = received now.0 datagram.items (is_accepted told) got.0 edged in
     subst (λ (z : StreamState). Heard (is_ok told) x.ssrc x.format (own_waits x) x.announced x.stage got.0 z) (sym got.3)
     (unless_heard (is_no_memory told) (is_ok told) now probation (is_accepted told) (payload_size (rtp_at datagram.items)) x.ssrc x.format (own_waits x) x.announced x.stage got.0
@@ -373,7 +373,7 @@ unless_edges false now probation accepted size s = refl
 takes_edges : (now : Ticks) (probation : ℕ) (bytes : List ℕ) (s : StreamState) (answer : Result Outcome ReceiveError) (t : StreamState) → (got : Takes now probation bytes s answer t)
     → t.edges ≡ record s.edges { followed = got.1 }
 takes_edges now probation bytes s answer t got =
-    let edged : StreamState = with_edges got.0 got.1 s in
+    let edged : StreamState = with_edges got.0 got.1 (probed bytes answer s) in
     let r : StreamState = received now.0 bytes (is_accepted answer) got.0 edged in
     ap (λ (x : StreamState). x.edges) got.3 ∙ unless_edges (is_no_memory answer) now.0 probation (is_accepted answer) (payload_size (rtp_at bytes)) (late_followed (is_ok answer) now.0 bytes r)
     ∙ late_edges (is_ok answer) now.0 bytes r

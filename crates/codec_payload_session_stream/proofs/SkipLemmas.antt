@@ -12,6 +12,7 @@ use Rattle.codec_payload_keyframes.specs.References.{no_references}
 use Rattle.codec_payload_receiver.specs.Pops.{DropsUnits, PopsGated, PopsOnce, none_dropped, one_more, without_unit}
 use Rattle.codec_payload_receiver.specs.Sessions.{Session as Receiver}
 use Rattle.codec_payload_session_requests.specs.Late.{unboxed}
+use Rattle.codec_payload_session_requests.specs.Probes.{in_box}
 use Rattle.codec_payload_session_stream.specs.Quiet.{AsksNothing, IsBefore, IsKnown, IsQuiet, IsQuietUntil, PopsNothing, Rests, RestsUntil, or_none, time_of}
 use Rattle.codec_payload_session_requests.specs.Requests.{MayRest, Asking, Asks, is_heard, requests_due}
 use Rattle.codec_payload_session_stream.specs.Streams.{Drains, Plays, Pops, RequestsBy, RestsBy, Steps, StepsBy, StreamState, earlier, end_by, is_probation, request_deadline, step_of, work_deadline}
@@ -202,6 +203,7 @@ seen s = record {
   bytes = s.bytes;
   last = s.last;
   feedback = s.feedback;
+  probes = in_box s.probes;
   late = unboxed s.late;
   sender_clock = s.sender_clock;
   was_reported = s.was_reported;

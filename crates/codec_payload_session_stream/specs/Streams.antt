@@ -25,6 +25,7 @@ use Rattle.codec_payload_rtp.specs.RtpReading.{rtp_at}
 use Rattle.codec_payload_rtp.specs.declared.rtp.RtpError.{RtpError}
 use Rattle.codec_payload_session_formats.specs.Formats.{HasSettings, is_video, limits_for}
 use Rattle.codec_payload_session_requests.specs.Named.{FollowsEdges, rules_for}
+use Rattle.codec_payload_session_requests.specs.Probes.{Probes, noted as probes_noted, packets_without, probes_for, probes_of}
 use Rattle.codec_payload_session_requests.specs.Late.{late_after, late_for, limit_by, number_at as late_number}
 use Rattle.codec_payload_session_formats.specs.Names.{are_of_one, names_after, no_names}
 use Rattle.codec_payload_session_requests.specs.Requests.{Asking, Asks, answer_by, answered_if, asked_by, feedback_by, heard_by, is_heard, number_at, reported_by, request_counts_of, requests_due, round_trip_of, wait_by}
@@ -52,8 +53,8 @@ pub record Edges : Type 0 where
   pub followed : Option Followed
 
 -- a stream, as contracts see it: its SSRC and format; its receiver; the edges of its pictures; its stage; whether it was announced; how many datagrams it
--- took, how many of them were accepted, and how many bytes of payload they had; when the latest one arrived; what it requests; how late its missing packets arrive, if
--- waiting follows that; the clock of its sender; whether this round of reports had a block about it; which header extensions have its
+-- took, how many of them were accepted, and how many bytes of payload they had; when the latest one arrived; what it requests; which of its retransmissions are of
+-- packets that came before; how late its missing packets arrive, if waiting follows that; the clock of its sender; whether this round of reports had a block about it; which header extensions have its
 -- names, and the names that its accepted packets had
 pub record StreamState : Type 0 where
   pub ssrc : ℕ
@@ -67,6 +68,7 @@ pub record StreamState : Type 0 where
   pub bytes : ℕ
   pub last : ℕ
   pub feedback : Option Asking
+  pub probes : Option Probes
   pub late : Option Wait
   pub sender_clock : Option SenderClock
   pub was_reported : Bool
@@ -90,6 +92,7 @@ pub record Begins (settings : SessionSettings) (ssrc : ℕ) (f : Format) (s : St
   pub bytes : s.bytes ≡ 0
   pub last : s.last ≡ 0
   pub feedback : s.feedback ≡ feedback_by settings.feedback ssrc f (limits_for settings (is_video f.spec.codec)).max_wait
+  pub probes : s.probes ≡ probes_for f
   pub late : s.late ≡ late_for settings f
   pub sender_clock : s.sender_clock ≡ None
   pub was_reported : s.was_reported ≡ false
@@ -182,6 +185,10 @@ abbrev pub received : ℕ → List ℕ → Bool → Receiver → StreamState →
 received now bytes true r s = following (record s { receiver = r; feedback = heard_by now (number_at s.format bytes) s.feedback; names = names_after s.name_ids bytes s.names })
 received now bytes false r s = record s { receiver = r }
 
+-- a retransmission of a number that came before is counted apart
+abbrev pub probed : List ℕ → Result Outcome ReceiveError → StreamState → StreamState
+probed bytes answer s = record s { probes = probes_noted s.format bytes answer s.probes }
+
 -- how packets of the stream say where pictures begin and end
 abbrev pub edge_rules_of : StreamState → EdgeRules
 edge_rules_of s = rules_for s.format s.edges.descriptor
@@ -200,11 +207,11 @@ pub record Hears (now : Ticks) (bytes : List ℕ) (s : StreamState) (answer : Re
   pub receives : ReceivesBytes now bytes s.receiver answer mid
   pub follows : FollowsEdges (edge_rules_of s) bytes answer s.edges.followed mid followed r
 
--- the receiver receives the datagram, and the edges follow it; if memory runs out for it, nothing is counted
+-- the receiver receives the datagram, its number is noted, and the edges follow it; if memory runs out for it, nothing is counted
 abbrev pub Takes : Ticks → ℕ → List ℕ → StreamState → Result Outcome ReceiveError → StreamState → Type 0
 Takes now probation bytes s answer t =
     (r : Receiver) × (followed : Option Followed) × Hears now bytes s answer r followed
-    × (t ≡ heard_unless (is_no_memory answer) now.0 probation (is_accepted answer) (payload_size (rtp_at bytes)) (late_followed (is_ok answer) now.0 bytes (received now.0 bytes (is_accepted answer) r (with_edges r followed s))))
+    × (t ≡ heard_unless (is_no_memory answer) now.0 probation (is_accepted answer) (payload_size (rtp_at bytes)) (late_followed (is_ok answer) now.0 bytes (received now.0 bytes (is_accepted answer) r (with_edges r followed (probed bytes answer s)))))
 
 -- the stream is announced, and has the names of this sender under another SSRC
 abbrev pub is_former : ℕ → StreamNames → StreamState → Bool
@@ -396,6 +403,10 @@ abbrev pub due_in : ℕ → List StreamState → Option ℕ
 due_in idle [] = None
 due_in idle (s ∷ ss) = earlier (due_of idle s) (due_in idle ss)
 
+-- the receiver of a stream, with counters without probes
+abbrev pub told_receiver : StreamState → Receiver
+told_receiver s = record s.receiver { packets = record s.receiver.packets { counters = packets_without s.probes s.receiver.packets.counters } }
+
 -- the counters of a receiver
 pub record HasCounters (r : Receiver) (c : Counters) : Type 0 where
   pub received : c.received ≡ (r.arrived.received + length r.choice.candidates) % 2 ^ 64
@@ -415,7 +426,8 @@ pub record IsInfo (s : StreamState) (i : StreamInfo) : Type 0 where
   pub taken : i.taken ≡ s.taken
   pub bytes : i.bytes ≡ s.bytes
   pub held : i.held ≡ length s.receiver.packets.buffer.held
-  pub counters : HasCounters s.receiver i.counters
+  pub counters : HasCounters (told_receiver s) i.counters
+  pub probes : i.probes ≡ probes_of s.probes
   pub round_trip : i.round_trip ≡ round_trip_of s.feedback
   pub requests : i.requests ≡ request_counts_of s.feedback
   pub sender_clock : i.sender_clock ≡ s.sender_clock
@@ -441,7 +453,8 @@ info_of s = record {
   taken = s.taken;
   bytes = s.bytes;
   held = length s.receiver.packets.buffer.held;
-  counters = counters_of s.receiver;
+  counters = counters_of (told_receiver s);
+  probes = probes_of s.probes;
   round_trip = round_trip_of s.feedback;
   requests = request_counts_of s.feedback;
   sender_clock = s.sender_clock;

@@ -36,6 +36,9 @@ use codec_payload_session_formats::formats::{
 use codec_payload_session_formats::names::{StreamNameIds, StreamNames};
 use codec_payload_session_requests::late::{follow, late_for, limit_by};
 use codec_payload_session_requests::named::NamedReceiver;
+use codec_payload_session_requests::probes::{
+    Probes, note_probe, probe_count, probes_for, without_probes,
+};
 use codec_payload_session_requests::requests::{
     Feedback, KeyframeAnswer, answer_if, are_idle, ask_keyframe, hear, request_counts,
     requests_due, rest_time, round_trip, wait_by,
@@ -86,8 +89,11 @@ pub struct StreamInfo {
     pub bytes: u64,
     /// The number of held packets.
     pub held: usize,
-    /// The outcomes of its datagrams.
+    /// The outcomes of its datagrams, without `probes`: these are neither late nor duplicates here.
     pub counters: Counters,
+    /// Retransmissions (RFC 4588) of numbers that came before, modulo 2^64. A sender sends such ones to find out what the network carries.
+    /// Of all numbers with the same remainder by 2,048 the latest is remembered.
+    pub probes: u64,
     /// The round-trip time in ticks: what extended reports say (RFC 3611), or else the median of the latest five answers to requests of
     /// the session. `None`: neither came.
     pub round_trip: Option<u64>,
@@ -119,6 +125,8 @@ pub struct StreamState {
     pub(crate) last: u64,
     /// What it requests. `None`: nothing.
     pub feedback: Option<Feedback>,
+    /// Which of its retransmissions are of packets that came before.
+    probes: Option<Box<Probes>>,
     /// How late its missing packets arrive, if waiting follows that.
     late: Option<Box<AdaptiveWait>>,
     /// What the latest sender report says.
@@ -142,6 +150,7 @@ impl Model for StreamState {
 
     ghost use Rattle.codec_payload_session_stream.specs.Quiet.{IsQuietUntil, time_of};
     ghost use Rattle.codec_payload_session_requests.specs.Late.{unboxed};
+    ghost use Rattle.codec_payload_session_requests.specs.Probes.{in_box};
 
     ghost view = { λ s. record {
       ssrc = s.ssrc;
@@ -155,6 +164,7 @@ impl Model for StreamState {
       bytes = s.bytes;
       last = s.last;
       feedback = s.feedback;
+      probes = in_box s.probes;
       late = unboxed s.late;
       sender_clock = s.sender_clock;
       was_reported = s.was_reported;
@@ -204,6 +214,7 @@ impl StreamState {
         let max_wait = settings.limits(format).max_wait;
         let feedback = Feedback::begin(alloc, &settings.feedback, ssrc, format, max_wait)?;
         let late = late_for(alloc, settings, format)?;
+        let probes = probes_for(alloc, format)?;
         let name_ids = settings.name_ids;
         let descriptor = settings.dependency_descriptor;
         let settings = settings.receiver(alloc, ssrc, format)?;
@@ -222,6 +233,7 @@ impl StreamState {
             bytes: 0,
             last: 0,
             feedback,
+            probes,
             late,
             sender_clock: None,
             was_reported: false,
@@ -260,6 +272,7 @@ impl StreamState {
     {
         self.quiet_until = 0;
         let answer = self.receiver.receive(now, datagram);
+        note_probe(&mut self.probes, &self.format, datagram, &answer);
         self.follow_edges(datagram, &answer);
         let accepted = is_accepted(&answer);
         self.hear_if(accepted, now, datagram);
@@ -690,7 +703,8 @@ impl StreamState {
             taken: self.taken,
             bytes: self.bytes,
             held: self.receiver.inner().held(),
-            counters: self.receiver.inner().counters(),
+            counters: without_probes(&self.probes, self.receiver.inner().counters()),
+            probes: probe_count(&self.probes),
             round_trip: round_trip(&self.feedback),
             requests: request_counts(&self.feedback),
             sender_clock: self.sender_clock,

@@ -5,6 +5,7 @@
 use crate::memory::One;
 use alloc::vec::Vec;
 use codec_payload::bandwidth::chooser::LayerChoice;
+use codec_payload::bandwidth::offer::RateOffer;
 use codec_payload::bandwidth::path::ViewerPath;
 use codec_payload::bandwidth::resends::ResendLimit;
 use codec_payload::fec::fec_receiver::FecReceiver;
@@ -31,4 +32,5 @@ pub enum PathObject {
     ResendLimit(One<ResendLimit>),
     PacketStore(One<PacketStore>),
     FecReceiver(One<CallerFec>),
+    RateOffer(One<RateOffer>),
 }

@@ -180,7 +180,7 @@ pub fn resend(
 }
 
 /// Returns the status for control information that is not transport-wide feedback.
-fn fault_status(fault: TransportFault) -> u32 {
+pub(crate) fn fault_status(fault: TransportFault) -> u32 {
     match fault {
         TransportFault::HeaderTooShort => status::TRANSPORT_HEADER_TOO_SHORT,
         TransportFault::ChunksTooShort => status::TRANSPORT_CHUNKS_TOO_SHORT,

@@ -5,7 +5,7 @@
 use crate::handle::object::PortSession;
 use crate::handle::status;
 use crate::receiving::receiver::{
-    ReceiverCountsInfo, WaitLimits, counts_by, counts_from, missing_into, waiting_for,
+    ReceiverCountsInfo, WaitLimits, counts_from, missing_into, waiting_for,
 };
 use crate::receiving::session::number_of;
 use codec_payload::session::stream::{Stage, StreamInfo};
@@ -52,8 +52,10 @@ pub struct SessionStream {
     pub payload_type: u8,
     /// Whether `round_trip` is set.
     pub has_round_trip: bool,
-    /// The counters of its receiver.
+    /// The counters of its receiver, without `probes`.
     pub counts: ReceiverCountsInfo,
+    /// How many retransmissions were of numbers that came before, modulo 2^64.
+    pub probes: u64,
 }
 
 /// Returns the number of a stage.
@@ -113,6 +115,7 @@ fn described(info: &StreamInfo, counts: ReceiverCountsInfo) -> SessionStream {
         payload_type: info.payload_type,
         has_round_trip: info.round_trip.is_some(),
         counts,
+        probes: info.probes,
     }
 }
 
@@ -140,7 +143,10 @@ pub fn stream_at(port: &PortSession, place: usize, stream: &mut SessionStream) -
     ) else {
         return status::NONE;
     };
-    *stream = described(&info, counts_by(receiver));
+    *stream = described(
+        &info,
+        counts_from(&info.counters, info.held, receiver.ssrc()),
+    );
     status::OK
 }
 

@@ -66,8 +66,8 @@ impl Arrivals {
         rate_by(measure(&self.latest, false))
     }
 
-    /// Returns the rate since the last packet that did not stand in a queue: what the link carries, in bits per second. If that is less than
-    /// 50 ms ago: the rate of all.
+    /// Returns the rate since the first of the latest packets that stood in a queue: what the link carries, in bits per second. If that is less
+    /// than 50 ms ago: the rate of all.
     #[must_use]
     pub fn link_rate(&self) -> Option<u128> {
         match rate_by(measure(&self.latest, true)) {
@@ -99,7 +99,8 @@ fn rate_by(span: Span) -> Option<u128> {
     Some(u128::from(span.bytes) * 8_000_000 / u128::from(span.time))
 }
 
-/// Returns the longest span within the window. `busy`: it begins at the latest packet that did not wait, or later.
+/// Returns the longest span within the window. `busy`: it begins after the latest packet that did not wait, so that a pause before a
+/// queue does not count.
 fn measure(latest: &[Option<Arrival>], busy: bool) -> Span {
     let newest = newest(latest);
     let mut span = Span { bytes: 0, time: 0 };
@@ -111,13 +112,13 @@ fn measure(latest: &[Option<Arrival>], busy: bool) -> Span {
         if newest.saturating_sub(one.at) > WINDOW {
             return span;
         }
+        if busy && !one.waited {
+            return span;
+        }
         span = Span {
             bytes,
             time: newest.saturating_sub(one.at),
         };
-        if busy && !one.waited {
-            return span;
-        }
         bytes += u64::from(one.size);
     }
     span

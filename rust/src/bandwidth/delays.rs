@@ -67,6 +67,13 @@ impl Delays {
         }
     }
 
+    /// Takes the least delay of the latest packets for that of an empty queue: the way has become longer. Then nothing stands, until a
+    /// packet takes longer. A shorter delay counts again at once.
+    pub fn follow(&mut self) {
+        self.current = least(&self.latest);
+        self.before = None;
+    }
+
     /// Returns how long the latest packets stood in the queue, in microseconds. 0 before the first packet.
     #[must_use]
     pub fn standing(&self) -> u128 {

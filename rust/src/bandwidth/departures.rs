@@ -141,6 +141,41 @@ impl Departures {
         self.append_reported(begin, from_place(counted, begin - base), fates)
     }
 
+    /// Appends the numbers of the packets that a feedback reports lost, in the order of leaving: of those packets that
+    /// [`Departures::append_fates`] reports.
+    ///
+    /// # Errors
+    ///
+    /// Out of memory: `lost` has some of them.
+    pub(crate) fn append_lost(
+        &self,
+        feedback: &TransportFeedback,
+        lost: &mut Vec<u16>,
+    ) -> Result<(), AllocError> {
+        let Some(base) = self.index_of(feedback.base) else {
+            return Ok(());
+        };
+        let counted = up_to(&feedback.statuses, self.count - base);
+        let begin = base.max(self.open());
+        append_lost_from(begin, from_place(counted, begin - base), lost)
+    }
+
+    /// Returns whether the latest packet that left has this number, and no feedback counted of it.
+    fn is_latest(&self, number: u16) -> bool {
+        self.counted < self.count && (self.count - 1) % 65_536 == u64::from(number)
+    }
+
+    /// Takes back the latest packet that left, if it has this number and no feedback counted of it: the next packet gets its number.
+    /// Returns whether that is so. Otherwise nothing changes.
+    pub(crate) fn take_back(&mut self, number: u16) -> bool {
+        if !self.is_latest(number) {
+            return false;
+        }
+        self.latest.pop_back();
+        self.count -= 1;
+        true
+    }
+
     /// Notes that a feedback was heard.
     pub(crate) fn hear(&mut self, feedback: &TransportFeedback) {
         let Some(base) = self.index_of(feedback.base) else {
@@ -168,6 +203,20 @@ fn from_place(statuses: &[Option<u32>], place: u64) -> &[Option<u32>] {
         return &[];
     }
     &statuses[place as usize..]
+}
+
+/// Appends the numbers of the packets from `from` on that these statuses report lost.
+fn append_lost_from(
+    from: u64,
+    statuses: &[Option<u32>],
+    lost: &mut Vec<u16>,
+) -> Result<(), AllocError> {
+    for (place, status) in statuses.iter().enumerate() {
+        if status.is_none() {
+            lost.try_push(((from + place as u64) % 65_536) as u16)?;
+        }
+    }
+    Ok(())
 }
 
 /// Returns the time of the last packet that arrived.

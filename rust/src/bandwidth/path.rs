@@ -6,6 +6,7 @@ use crate::bandwidth::chooser::{LayerChoice, LayerChooser, LayerSettings};
 use crate::bandwidth::departures::Departures;
 use crate::bandwidth::estimator::{BandwidthEstimator, PacketFate};
 use crate::bandwidth::pacer::{PacedKind, PacedPacket, Pacer, PacerError, PacerSettings};
+use crate::bandwidth::rate::Trial;
 use crate::bandwidth::resends::{ResendLimit, ResendRefused, ResendSettings};
 use crate::congestion::transport::TransportFeedback;
 use crate::memory::AllocError;
@@ -72,6 +73,23 @@ pub struct PathOrder {
     pub padding: u32,
 }
 
+/// What a path knows, for statistics.
+#[derive(Clone, Copy, Debug, PartialEq, Eq)]
+pub struct PathStatistics {
+    /// The estimate of the rate that the path carries, in bits per second.
+    pub estimate: u64,
+    /// What is left of it for first transmissions, in bits per second.
+    pub carries: u64,
+    /// How long packets stand in the queue of the path, in microseconds.
+    pub standing: u64,
+    /// The usual losses, in thousandths.
+    pub usual_losses: u64,
+    /// The trial of a higher rate that is under way.
+    pub trial: Option<Trial>,
+    /// Whether a queue is being emptied: the pace is 3/4 of the estimate.
+    pub is_draining: bool,
+}
+
 /// The path to one viewer: a pacer, a limit of retransmissions, a choice of layers, and an estimate of what the path carries.
 ///
 /// Push the packets of all streams that go to the viewer, send what [`ViewerPath::pop`] returns with the number that it gets, hand
@@ -129,6 +147,7 @@ impl ViewerPath {
     pub fn pop(&mut self, now: Ticks) -> Option<Leaving> {
         let packet = self.pacer.pop(now)?;
         let number = self.departures.note(now, packet.size);
+        self.estimator.sent(now);
         if !matches!(packet.kind, PacedKind::Resent) {
             self.limit.sent(now, packet.size);
         }
@@ -171,6 +190,27 @@ impl ViewerPath {
         Ok(())
     }
 
+    /// Appends the transport-wide numbers of the packets that a feedback reports lost, in the order of leaving. Call it before
+    /// [`ViewerPath::feedback`] with the same feedback: then each lost packet is named once, whatever later feedback repeats.
+    ///
+    /// # Errors
+    ///
+    /// Out of memory: `lost` has some of them.
+    pub fn append_lost(
+        &self,
+        feedback: &TransportFeedback,
+        lost: &mut Vec<u16>,
+    ) -> Result<(), AllocError> {
+        self.departures.append_lost(feedback, lost)
+    }
+
+    /// Takes back the latest packet that [`ViewerPath::pop`] returned, if it has this number and was not sent: the next packet gets its
+    /// number, and feedback has no gap. Returns whether that is so: `false` if another packet left after it, or if feedback counted of
+    /// it. Then nothing changes. A packet that is taken back still counts for the pace and for the share of retransmissions.
+    pub fn take_back(&mut self, number: u16) -> bool {
+        self.departures.take_back(number)
+    }
+
     /// Chooses layers, begins and fills trials, and sets the pace, which is never below the rate of the first choice and a quarter.
     /// List the choices from the lowest to the highest.
     pub fn choose(&mut self, now: Ticks, choices: &[LayerChoice]) -> PathOrder {
@@ -178,7 +218,7 @@ impl ViewerPath {
         let carries = self.estimator.carries();
         let choice = self.chooser.choose(now, carries, choices);
         let wanted = wanted_by(
-            self.chooser.wanted(1, choices),
+            self.chooser.wanted(self.estimator.steps(), choices),
             self.estimator.estimate(),
             carries,
         );
@@ -217,6 +257,19 @@ impl ViewerPath {
     #[must_use]
     pub fn estimate(&self) -> u64 {
         self.estimator.estimate()
+    }
+
+    /// Returns what the path knows, for statistics.
+    #[must_use]
+    pub fn statistics(&self) -> PathStatistics {
+        PathStatistics {
+            estimate: self.estimator.estimate(),
+            carries: self.estimator.carries(),
+            standing: self.estimator.standing(),
+            usual_losses: self.estimator.usual_losses(),
+            trial: self.estimator.trial(),
+            is_draining: self.estimator.is_draining(),
+        }
     }
 
     /// Returns the index of the current choice.

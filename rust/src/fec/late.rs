@@ -3,7 +3,7 @@
 //! Elements of header extensions that a sender fills in late.
 
 use crate::memory::{AllocError, TryVec};
-use crate::rtp::elements::{Element, ElementForm};
+use crate::rtp::elements::{ElementForm, front_element};
 use crate::rtp::packet::{HeaderExtension, PacketHeader, RtpPacket};
 use alloc::vec::Vec;
 
@@ -53,35 +53,6 @@ fn put_value(from: Option<usize>, value: &[u8], out: &mut Vec<u8>) -> Result<(),
     let kept = from.min(value.len());
     out.try_extend(&value[..kept])?;
     out.try_resize(out.len() + (value.len() - kept), 0)
-}
-
-/// Returns the element with this id and `len` bytes, and the bytes after it. `None`: it passes the end.
-fn cut_front(id: u8, len: usize, bytes: &[u8]) -> Option<(Element<'_>, &[u8])> {
-    if bytes.len() < len {
-        return None;
-    }
-    let (bytes, rest) = bytes.split_at(len);
-    Some((Element { id, bytes }, rest))
-}
-
-/// Returns the element at the front, and the bytes after it.
-fn front_element(form: ElementForm, bytes: &[u8]) -> Option<(Element<'_>, &[u8])> {
-    match form {
-        ElementForm::OneByte => {
-            let (b, rest) = bytes.split_first()?;
-            let id = b / 16;
-            if id == 0 || id == 15 {
-                return None;
-            }
-            cut_front(id, usize::from(b % 16) + 1, rest)
-        }
-        ElementForm::TwoByte => {
-            let [id, len, rest @ ..] = bytes else {
-                return None;
-            };
-            cut_front(*id, usize::from(*len), rest)
-        }
-    }
 }
 
 /// Appends what is at the front: a byte of padding, or an element, with zeros if it is filled in late. If there is neither, appends all.

@@ -65,8 +65,8 @@ fn is_lowest_layer(flags: u8, behind: &[u8]) -> bool {
     }
 }
 
-/// Returns the bytes behind the PictureID of one or two bytes, if there is one.
-fn behind_id(flags: u8, bytes: &[u8]) -> &[u8] {
+/// Returns the bytes behind the PictureID of one or two bytes, if the bit I (0x80) of `flags` is set.
+pub(crate) fn behind_id(flags: u8, bytes: &[u8]) -> &[u8] {
     if flags & 0x80 == 0 {
         return bytes;
     }

@@ -150,8 +150,8 @@ fn cut_front(id: u8, len: usize, bytes: &[u8]) -> Option<(Element<'_>, &[u8])> {
     Some((Element { id, bytes }, rest))
 }
 
-/// The element at the front, and the bytes after it.
-fn front_element(form: ElementForm, bytes: &[u8]) -> Option<(Element<'_>, &[u8])> {
+/// Returns the element at the front, and the bytes after it. `None`: padding, a reserved id, or an element that extends beyond the end.
+pub(crate) fn front_element(form: ElementForm, bytes: &[u8]) -> Option<(Element<'_>, &[u8])> {
     match form {
         ElementForm::OneByte => {
             let (b, rest) = bytes.split_first()?;

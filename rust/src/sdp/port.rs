@@ -163,7 +163,7 @@ fn set_wait_limits(settings: &mut SessionSettings) {
     }
 }
 
-fn is_video(codec: Codec) -> bool {
+pub(super) fn is_video(codec: Codec) -> bool {
     matches!(codec, Codec::Vp8 | Codec::Vp9 | Codec::Av1)
 }
 
@@ -186,8 +186,9 @@ impl Media<'_> {
     ///
     /// - RED: the RED format over the payload type. RED that names no payload type is over the first format of media of its
     ///   section: a session finds the stream of a RED packet by its payload type alone. The step is that of
-    ///   [`Media::receiver_settings`]. Video has no RED if the section lists `ulpfec` or other error correction: refuse `red` and
-    ///   `ulpfec` of video, since sessions do not use FEC.
+    ///   [`Media::receiver_settings`]. Video has no RED if the section lists `ulpfec` or other error correction: a
+    ///   [`FecPort`](crate::fec::FecPort) in front of the session reads it ([`fec_port_settings`](super::fec_port_settings)). Without one
+    ///   refuse `red` and `ulpfec` of video.
     /// - Retransmissions: the first format of RTX whose `apt` is the payload type, and for RED the first one whose `apt` is RED's.
     /// - `nack` and `pli`: by `a=rtcp-fb`.
     #[must_use]
@@ -211,7 +212,7 @@ impl Media<'_> {
         })
     }
 
-    /// Whether the section has error correction, which video has in RED. Sessions do not use it, so this RED has to be refused.
+    /// Whether the section has error correction, which video has in RED. A port with FEC reads this RED.
     fn has_error_correction(&self) -> bool {
         let mut formats = self.formats.iter();
         formats.any(|format| format.role == Role::ErrorCorrection)

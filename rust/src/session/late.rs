@@ -64,7 +64,7 @@ pub(crate) fn limit_by(late: &Option<One<AdaptiveWait>>) -> Option<u64> {
 }
 
 /// Returns the number of a packet; a retransmission has its original number (RFC 4588, section 4).
-fn number_of(format: &Format, datagram: &ParsedDatagram<'_>) -> Option<u16> {
+pub(crate) fn number_of(format: &Format, datagram: &ParsedDatagram<'_>) -> Option<u16> {
     match datagram.packet() {
         Ok(packet) if format.resends(packet.header.payload_type) => original_number(packet.payload),
         Ok(packet) => Some(packet.header.sequence_number),

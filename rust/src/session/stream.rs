@@ -15,6 +15,7 @@ use crate::session::formats::{Format, SessionSettings, SsrcPair, retransmission_
 use crate::session::late::{follow, late_for, limit_by};
 use crate::session::named::NamedReceiver;
 use crate::session::names::{StreamNameIds, StreamNames};
+use crate::session::probes::{Probes, note_probe, probe_count, probes_for, without_probes};
 use crate::session::reports::SenderClock;
 use crate::session::requests::{
     Feedback, KeyframeAnswer, answer_if, are_idle, ask_keyframe, hear, request_counts,
@@ -73,8 +74,11 @@ pub struct StreamInfo {
     pub bytes: u64,
     /// The number of held packets.
     pub held: usize,
-    /// The outcomes of its datagrams.
+    /// The outcomes of its datagrams, without `probes`: these are neither late nor duplicates here.
     pub counters: Counters,
+    /// Retransmissions (RFC 4588) of numbers that came before, modulo 2^64. A sender sends such ones to find out what the network carries.
+    /// Of all numbers with the same remainder by 2,048 the latest is remembered.
+    pub probes: u64,
     /// The round-trip time in ticks: what extended reports say (RFC 3611), or else the median of the latest five answers to requests of
     /// the session. `None`: neither came.
     pub round_trip: Option<u64>,
@@ -106,6 +110,8 @@ pub(crate) struct StreamState {
     pub(crate) last: u64,
     /// What it requests. `None`: nothing.
     pub feedback: Option<Feedback>,
+    /// Which of its retransmissions are of packets that came before.
+    probes: Option<One<Probes>>,
     /// How late its missing packets arrive, if waiting follows that.
     late: Option<One<AdaptiveWait>>,
     /// What the latest sender report says.
@@ -157,6 +163,7 @@ impl StreamState {
         let max_wait = settings.limits(format).max_wait;
         let feedback = Feedback::begin(&settings.feedback, ssrc, format, max_wait)?;
         let late = late_for(settings, format)?;
+        let probes = probes_for(format)?;
         let name_ids = settings.name_ids;
         let descriptor = settings.dependency_descriptor;
         let settings = settings.receiver(ssrc, format)?;
@@ -175,6 +182,7 @@ impl StreamState {
             bytes: 0,
             last: 0,
             feedback,
+            probes,
             late,
             sender_clock: None,
             was_reported: false,
@@ -207,6 +215,7 @@ impl StreamState {
     ) -> Result<Outcome, ReceiveError> {
         self.quiet_until = 0;
         let answer = self.receiver.receive(now, datagram);
+        note_probe(&mut self.probes, &self.format, datagram, &answer);
         self.follow_edges(datagram, &answer);
         let accepted = is_accepted(&answer);
         self.hear_if(accepted, now, datagram);
@@ -572,7 +581,8 @@ impl StreamState {
             taken: self.taken,
             bytes: self.bytes,
             held: self.receiver.inner().held(),
-            counters: self.receiver.inner().counters(),
+            counters: without_probes(&self.probes, self.receiver.inner().counters()),
+            probes: probe_count(&self.probes),
             round_trip: round_trip(&self.feedback),
             requests: request_counts(&self.feedback),
             sender_clock: self.sender_clock,

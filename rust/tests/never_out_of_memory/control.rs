@@ -6,7 +6,10 @@ use codec_payload::bandwidth::{
 };
 use codec_payload::ccfb::{CongestionFeedback, PacketMetric, StreamReport, stream_report};
 use codec_payload::congestion::*;
-use codec_payload::fec::{FecPacket, FecReceiver, FecSettings, FecWriter, LateIds, PacketStore};
+use codec_payload::fec::{
+    FecPacket, FecPort, FecPortSettings, FecReceiver, FecSender, FecSenderSettings, FecSettings,
+    FecWriter, LateIds, PacketStore,
+};
 use codec_payload::feedback::{
     FeedbackSource, StreamRequests, TransportReporter, TransportSettings,
 };
@@ -22,6 +25,7 @@ pub const CALLS: [Call; 17] = [
     Call(&["Pacer::push"], paced),
     Call(
         &[
+            "ViewerPath::append_lost",
             "ViewerPath::feedback",
             "ViewerPath::new",
             "ViewerPath::push",
@@ -32,9 +36,13 @@ pub const CALLS: [Call; 17] = [
         &[
             "FecPacket::rebuild",
             "FecPacket::write",
+            "FecPort::next_rebuilt",
+            "FecPort::receive",
             "FecReceiver::new",
             "FecReceiver::next_rebuilt",
             "FecReceiver::receive",
+            "FecSender::finish_frame",
+            "FecSender::push",
             "FecWriter::write",
             "PacketStore::keep",
             "PacketStore::new",
@@ -411,6 +419,9 @@ fn viewer(size: usize) {
         counter: 0,
         statuses: statuses.collect(),
     };
+    let mut lost = vec![];
+    made(path.append_lost(&feedback, &mut lost));
+    assert_eq!(lost.is_empty(), size == 0);
     made(path.feedback(Ticks(now), 50_000, &feedback));
     assert!(path.waiting() == 0);
 }
@@ -432,6 +443,53 @@ fn received(packets: &[&[u8]], fec: &[u8]) -> Option<Vec<u8>> {
     made(receiver.next_rebuilt())
 }
 
+/// A frame in RED, and its FEC.
+fn sent(writer: FecWriter, packets: &[&[u8]], wanted: &Payloads) {
+    let mut sender = made(FecSender::new(FecSenderSettings {
+        ssrc: 7,
+        red_type: 116,
+        fec_type: 117,
+        first_number: 0,
+        writer,
+        late_ids: LateIds::default(),
+    }));
+    let (mut red, mut fec) = (vec![], made(Payloads::new(0, 0)));
+    for packet in packets {
+        made(sender.push(packet, &mut red));
+    }
+    made(sender.finish_frame(true, &mut fec));
+    // Packets without a payload are not protected.
+    let count = if packets[0].len() > 12 {
+        wanted.len()
+    } else {
+        0
+    };
+    assert_eq!(fec.len(), count);
+}
+
+/// What a port with FEC hands out for the same.
+fn ported(packets: &[&[u8]], fec: &[u8]) -> Option<Vec<u8>> {
+    let settings = FecPortSettings {
+        red_type: 116,
+        fec_type: 117,
+        red_retransmission: None,
+        retransmissions: vec![],
+        late_ids: LateIds::default(),
+        bytes: 512 * 65_548,
+        max_streams: 1,
+    };
+    let mut port = FecPort::new(settings).expect("settings that can be met");
+    let mut out = vec![];
+    // A packet of RED begins the stream.
+    let [red, header] = [116, 117].map(|kind| [0x80, kind, 0, 99, 0, 0, 0, 9, 0, 0, 0, 7]);
+    made(port.receive(&[&red[..], &[96, 1]].concat(), &mut out));
+    for packet in packets {
+        made(port.receive(packet, &mut out));
+    }
+    made(port.receive(&[&header, fec].concat(), &mut out));
+    made(port.next_rebuilt())
+}
+
 /// Frames of packets of this size, the first of which is lost.
 fn corrected(size: usize) {
     let payload = vec![9; size.min(65_535)];
@@ -440,10 +498,10 @@ fn corrected(size: usize) {
         keyframe_protection: 255,
     };
     for count in [1, 2, 48, 49] {
-        let sent: Vec<Vec<u8>> = (0..count)
+        let all: Vec<Vec<u8>> = (0..count)
             .map(|number| [&[0x80, 96, 0, number, 0, 0, 0, 9, 0, 0, 0, 7], &payload[..]].concat())
             .collect();
-        let packets: Vec<&[u8]> = sent.iter().map(Vec::as_slice).collect();
+        let packets: Vec<&[u8]> = all.iter().map(Vec::as_slice).collect();
         let mut store = made(PacketStore::new(512 * 65_548));
         for packet in &packets[1..] {
             made(store.keep(packet));
@@ -451,6 +509,9 @@ fn corrected(size: usize) {
         let mut fec = made(Payloads::new(0, 0));
         for is_keyframe in [false, true] {
             made(writer.write(is_keyframe, &packets, &mut fec));
+            if is_keyframe {
+                sent(writer, &packets, &fec);
+            }
             for place in 0..fec.len() {
                 let packet = FecPacket::read(fec.get(place)).expect("a packet of FEC");
                 let mut again = vec![];
@@ -459,6 +520,7 @@ fn corrected(size: usize) {
                 let rebuilt = made(packet.rebuild(7, &store));
                 assert_eq!(rebuilt.is_some(), packet.only_missing(&store) == Some(0));
                 assert_eq!(received(&packets[1..], fec.get(place)), rebuilt);
+                assert_eq!(ported(&packets[1..], fec.get(place)), rebuilt);
             }
         }
     }

@@ -61,7 +61,10 @@ pub const CALLS: [Call; 14] = [
     Call(&["Session::receive_at", "Session::poll_into"], many_streams),
     Call(&["Session::add_pair"], pairs),
     Call(&["Session::receive", "Receiver::receive"], many_types),
-    Call(&["read", "session_settings", "groups"], descriptions),
+    Call(
+        &["read", "fec_port_settings", "session_settings", "groups"],
+        descriptions,
+    ),
     Call(&["Media::receiver_settings"], receiver_settings),
 ];
 
@@ -553,6 +556,7 @@ fn descriptions(size: usize) {
     let text = description(size);
     if let Ok(media) = told(sdp::read(&text)) {
         let _ = told(sdp::session_settings(&media));
+        let _ = made(sdp::fec_port_settings(&media));
     }
     let _ = told(sdp::read(
         &"m=audio 9 RTP/AVP 0\r\n".repeat(size.min(5_000)),

@@ -404,3 +404,54 @@ fn receiver_round_trip() {
         assert!(!media[2].has_receiver_rtt);
     }
 }
+
+/// The settings of a port with FEC, as text.
+fn fec(text: &str) -> Option<String> {
+    let media = sdp::read(text).expect("lines without a fault");
+    let settings = sdp::fec_port_settings(&media).expect("there is memory")?;
+    let pairs = settings.retransmissions.iter();
+    let pairs: Vec<(u8, u8)> = pairs.map(|it| (it.media, it.retransmission)).collect();
+    let late = settings.late_ids;
+    Some(format!(
+        "red {} {:?} fec {} rtx {pairs:?} late {:?} {:?} {:?} {:?}",
+        settings.red_type,
+        settings.red_retransmission,
+        settings.fec_type,
+        late.transport_number,
+        late.abs_send_time,
+        late.transmission_offset,
+        late.video_timing,
+    ))
+}
+
+/// Settings of a port with FEC: of video with both lines alone.
+#[test]
+fn fec_of_video() {
+    let chromium = include_str!("../../../c/tests/sdp/chromium.sdp");
+    assert_eq!(
+        fec(chromium).as_deref(),
+        Some(
+            "red 118 Some(119) fec 120 rtx [(96, 97), (45, 46), (98, 99), (100, 101)] late Some(3) Some(2) Some(14) Some(7)"
+        )
+    );
+    let video = "m=video 9 RTP/AVP 96 116 117\r\na=rtpmap:96 VP8/90000\r\n";
+    let both = "a=rtpmap:116 red/90000\r\na=rtpmap:117 ULPFEC/90000\r\n";
+    let ids = "a=extmap:3 http://www.ietf.org/id/draft-holmer-rmcat-transport-wide-cc-extensions-01\r\n\
+        a=extmap:14 urn:ietf:params:rtp-hdrext:toffset\r\n";
+    assert_eq!(
+        fec(&format!("v=0\r\n{video}{both}{ids}")).as_deref(),
+        Some("red 116 None fec 117 rtx [] late Some(3) None Some(14) None")
+    );
+    // Other error correction, RED over named payload types, no video, payload types that look like RTCP.
+    for text in [
+        both.replace("ULPFEC", "flexfec-03"),
+        both.replace("red/90000\r\n", "red/90000\r\na=fmtp:116 96/96\r\n"),
+        both.replace("116 red", "115 red"),
+    ] {
+        assert_eq!(fec(&format!("v=0\r\n{video}{text}")), None, "{text}");
+    }
+    let audio = "m=audio 9 RTP/AVP 0 116 117\r\n";
+    assert_eq!(fec(&format!("v=0\r\n{audio}{both}")), None);
+    let low = format!("v=0\r\n{video}{both}").replace("117", "72");
+    assert_eq!(fec(&low), None);
+}

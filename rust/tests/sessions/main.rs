@@ -13,6 +13,7 @@ mod model;
 mod names;
 mod pairs;
 mod polls_into;
+mod probes;
 mod renegotiation;
 mod reporting;
 mod reports;

@@ -200,10 +200,10 @@ fn memory_of_sessions_and_streams() {
     let audio: Datagram = opus;
     let video: Datagram = |ssrc, number| vp8(ssrc, number, number == 0);
     let lines = [
-        ("audio", audio, 40, 2_890),
-        ("audio", audio, 1_500, 4_810),
-        ("video", video, 40, 3_030),
-        ("video", video, 6_000, 8_030),
+        ("audio", audio, 40, 2_900),
+        ("audio", audio, 1_500, 4_820),
+        ("video", video, 40, 3_040),
+        ("video", video, 6_000, 8_040),
     ];
     for (name, datagram, packets, most) in lines {
         // The list of streams has places for a power of two.

@@ -22,6 +22,7 @@ mod switched;
 mod switched_back;
 mod with_ids;
 mod witness_answers;
+mod witness_fec;
 mod witness_runs;
 mod witnesses;
 

@@ -9,6 +9,7 @@ mod formats;
 mod input;
 mod media;
 mod packets;
+mod ports;
 mod receiver;
 mod session;
 mod told;
@@ -18,7 +19,7 @@ use std::sync::OnceLock;
 
 type Target = fn(&mut Input);
 
-const TARGETS: [(&str, Target); 11] = [
+const TARGETS: [(&str, Target); 12] = [
     ("depacketize", formats::depacketize),
     ("units", formats::units),
     ("red", formats::red),
@@ -30,6 +31,7 @@ const TARGETS: [(&str, Target); 11] = [
     ("media", media::media),
     ("descriptor", descriptor::descriptor),
     ("fec", fec::fec),
+    ("ports", ports::ports),
 ];
 
 fn target() -> Target {

@@ -32,6 +32,7 @@ returns c = record {
   feedback =
       c.in_ok-feedback.ensures
       ∙ ap (λ (l : WaitLimits). feedback_by c.args.settings.now.feedback c.args.ssrc c.args.format.now l.max_wait) c.limits-max_wait.ensures;
+  probes = c.in_ok-probes.ensures;
   late = c.in_ok-late.ensures;
   sender_clock = refl;
   was_reported = refl;

@@ -1,0 +1,4 @@
+pub mod Senders
+pub mod Steps
+pub mod StreamNumbers
+pub mod Taken
