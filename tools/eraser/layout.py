@@ -33,7 +33,7 @@ WITHIN_CRATE = {
     ("numbers", "noted_times.rt"): "NotedTimes contradicts has_former is_of_former is_soon_after is_untimely make_room new note sender set_former",
     ("numbers", "seen_times.rt"): "LazySeenTimes SeenTime SeenTimes forget_if has_block is_block is_seen none note put take time",
     ("numbers", "statistics.rt"): "anew begin_if transit_change",
-    ("fec_receiver", "late.rt"): "plain_bytes",
+    ("fec_receiver", "late.rt"): "is_id plain_bytes written",
     ("datagrams", "kinds.rt"): "Datagram Malformation RedPacket RedStream SentAgain again_kind header is_among is_other is_padding_only is_sent_again media_kind number older payload primary receiver red_again_kind red_again_of red_kind under",
     ("datagrams", "choice.rt"): "Candidate Choice Origin Verdict bytes candidates forget is_silent keep note note_at number over received ssrc verdict",
     ("session_formats", "formats.rt"): "LONGEST_NAME Role is_telephone is_video limits receiver resends retransmission_for role stream_of",

@@ -155,7 +155,7 @@ module _ (c : Setting) (r : Receiving) (max_wait : ℕ) (plain : IsPlain c) (set
     | inr later ↦ held_at P hs n all.1 later
   ]
 
-  -- so few numbers count in a stretch, if what is pushed came
+  -- at most these numbers count in a stretch, if what is pushed came
   pub few_counted : (p : ℕ) (xs : List Came) (s : State) (ps : List Held) → StandsAt p xs s.cutoff → IsNear p xs → IsAboveCutoff s.cutoff s.held → AllHeld (IsOf xs) s.held
       → ((n : ℕ) → has_number n ps ≡ true → (k : ℕ) × (has_come k xs ≡ true) × (n ≡ c.first + k)) → length (filter (counts s ps) (numbers_from c.first (count c))) ≤ r.buffer.limit
   few_counted p xs s ps at near above all came =

@@ -70,7 +70,7 @@ packet_later c sent arrived m =
     ∙ ap (with_seen (later_seen c (record { sent = sent; delay = delay_of sent arrived }))) (epoch_later c sent m)
     ∙ seen_later c (record { sent = sent; delay = delay_of sent arrived }) (with_epoch sent m)
 
--- ---- what stands
+-- ---- the queueing delay
 
 count_if : (c delay : ℕ) (b : Bool) → (if b then Some (delay + c) else None) ≡ plus c (if b then Some delay else None)
 count_if c delay true = refl

@@ -1,4 +1,4 @@
--- How long packets stand in the queue of a path. Times are in microseconds.
+-- How long packets wait in the queue of a path. Times are in microseconds.
 use Rattle.std.specs.Prelude.{◌≡◌, ℕ, ◌+◌, ◌-◌, ◌^◌, ◌||◌, min, nat_le, nat_lt, if◌then◌else◌, List, [], ◌∷◌, take, replicate, Option, Some, None}
 use Rattle.codec_payload_bandwidth_estimate.specs.declared.delays.Seen.{Seen}
 
@@ -62,7 +62,7 @@ beyond (Some delay) (Some base) = delay - base
 beyond (Some delay) None = 0
 beyond None base = 0
 
--- what stands: the least delay of the latest packets above the base
+-- the queueing delay: the least delay of the latest packets above the base
 abbrev pub standing_of : Measured → ℕ
 standing_of m = beyond (least_of m.latest) (base_of m)
 

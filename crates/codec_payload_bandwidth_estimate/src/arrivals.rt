@@ -1,4 +1,4 @@
-//! The rate at which packets arrive, and what a link carries while a queue stands.
+//! The rate at which packets arrive, and what a link carries while packets wait in a queue.
 
 ghost use Rattle.std.specs.Prelude.{◌≡◌, ◌≤◌, ◌∷◌, length, take};
 ghost use Rattle.codec_payload_bandwidth_estimate.specs.Arrivals.{after_arrival, link_rate_of, measure_of, newest_at, no_arrivals, rate_by, rate_of};
@@ -19,7 +19,7 @@ const SHORTEST: u64 = 50_000;
 pub(crate) struct Arrival {
     pub(crate) at: u64,
     pub(crate) size: u32,
-    /// It stood in a queue.
+    /// It waited in a queue.
     pub(crate) waited: bool,
 }
 
@@ -63,7 +63,7 @@ impl Arrivals {
         }
     }
 
-    /// Notes an arrival of `size` bytes; `waited`: it stood in a queue. If `at` is before the latest arrival, it counts with the latest.
+    /// Notes an arrival of `size` bytes; `waited`: it waited in a queue. If `at` is before the latest arrival, it counts with the latest.
     pub fn note(&mut self, at: u64, size: u32, waited: bool)
         ensures { self.new ≡ after_arrival at size waited self.old }
     {
@@ -85,8 +85,8 @@ impl Arrivals {
         rate_by(measure(&self.latest, false))
     }
 
-    /// Returns the rate since the first of the latest packets that stood in a queue: what the link carries, in bits per second. If that is less
-    /// than 50 ms ago: the rate of all.
+    /// Returns the rate since the first of the latest packets that waited in a queue: what the link carries, in bits per second. If that is
+    /// less than 50 ms ago: the rate of all.
     pub fn link_rate(&self) -> Option<u128>
         ensures { result ≡ link_rate_of self.now }
     {

@@ -1,4 +1,4 @@
-//! How long packets stand in the queue of a path.
+//! How long packets wait in the queue of a path.
 
 ghost use Rattle.std.specs.Prelude.{◌≡◌, ◌∷◌, length, take};
 ghost use Rattle.codec_payload_bandwidth_estimate.specs.Delays.{above_of, after_packet, base_of, counts, delay_of, followed, least_of, lesser, no_delays, standing_of, with_epoch};
@@ -24,10 +24,10 @@ pub(crate) struct Seen {
     pub(crate) delay: u128,
 }
 
-/// How long packets stand in the queue of a path: the least delay of the latest packets, above the least delay of this epoch of 10 s and the
+/// How long packets wait in the queue of a path: the least delay of the latest packets, above the least delay of this epoch of 10 s and the
 /// one before.
 ///
-/// Times are in microseconds. The delay of a packet is a difference of two clocks, so it has no meaning of its own. A difference of
+/// Times are in microseconds. The delay of a packet is a difference of two clocks, so it has no meaning alone. A difference of
 /// two delays has: the clock of the receiver may be any. Takes about 1.6 kB. No call allocates.
 #[derive(Clone, Copy, Debug)]
 pub struct Delays {
@@ -88,8 +88,8 @@ impl Delays {
         }
     }
 
-    /// Takes the least delay of the latest packets for that of an empty queue: the way has become longer. Then nothing stands, until a
-    /// packet takes longer. A shorter delay counts again at once.
+    /// Takes the least delay of the latest packets for that of an empty queue: the way has become longer. Then the queue counts as empty,
+    /// until a packet takes longer. A shorter delay counts again at once.
     pub fn follow(&mut self)
         ensures { self.new ≡ followed self.old }
     {
@@ -97,7 +97,7 @@ impl Delays {
         self.before = None;
     }
 
-    /// Returns how long the latest packets stood in the queue, in microseconds. 0 before the first packet.
+    /// Returns how long the latest packets waited in the queue, in microseconds. 0 before the first packet.
     pub fn standing(&self) -> u128
         ensures { result ≡ standing_of self.now }
     {
@@ -107,7 +107,7 @@ impl Delays {
         }
     }
 
-    /// Returns how long this packet stood in the queue, in microseconds. 0 before the first packet.
+    /// Returns how long this packet waited in the queue, in microseconds. 0 before the first packet.
     pub fn above(&self, sent: u64, arrived: u64) -> u128
         ensures { result ≡ above_of sent arrived self.now }
     {

@@ -51,7 +51,7 @@ impl Losses {
         }
     }
 
-    /// Counts a packet of which feedback tells whether it was lost. In a period of 2^32 - 1 packets nothing more is counted.
+    /// Counts a packet for which feedback says whether it was lost. In a period of 2^32 - 1 packets nothing more is counted.
     pub fn note(&mut self, lost: bool)
         ensures { self.new ≡ after_fate lost self.old }
     {

@@ -1,4 +1,4 @@
-//! Whether what stands stays the same while less is sent.
+//! Whether the queueing delay stays the same while less is sent.
 
 ghost use Rattle.std.specs.Prelude.{◌≡◌};
 ghost use Rattle.codec_payload_bandwidth_estimate.specs.Steadiness.{begun_at, closed, is_steady, noted_at};
@@ -9,22 +9,22 @@ const WINDOW: u64 = 300_000;
 /// The leasts of windows differ by at most this time, in microseconds.
 const SAME: u64 = 6_000;
 
-/// What stands at least.
+/// The least queueing delay.
 const LEAST: u64 = 15_000;
 
 /// How many windows are compared.
 const WINDOWS: u32 = 3;
 
-/// Whether what stands stays the same while less is sent: then it is not a queue of what you send, but a longer way.
+/// Whether the queueing delay stays the same while less is sent: then it is not a queue of what you send, but a longer way.
 ///
-/// In each window of 300 ms the least counts. It is steady if the leasts of three windows in a row differ by at most 6 ms, and more than 15
-/// ms stand in each. A queue of your own that is emptied becomes shorter by more: by 84 ms in a window at 72 percent of the link's rate.
-/// Times are in microseconds. No call allocates.
+/// In each window of 300 ms the least counts. It is steady if the leasts of three successive windows differ by at most 6 ms, and more than
+/// 15 ms of queueing delay are in each. A queue of your packets that is emptied becomes shorter by more: by 84 ms in a window at 72 percent
+/// of the link's rate. Times are in microseconds. No call allocates.
 #[derive(Clone, Copy, Debug, PartialEq, Eq)]
 pub struct Steady {
     /// When this window begins.
     since: u64,
-    /// The least that stood in it.
+    /// The least queueing delay in it.
     least: u64,
     /// The least of the windows before.
     low: u64,
@@ -48,7 +48,7 @@ impl Steady {
         }
     }
 
-    /// Notes what stands at this time. Before the first window nothing changes.
+    /// Notes the queueing delay at this time. Before the first window nothing changes.
     pub fn note(&mut self, now: u64, standing: u64)
         ensures { self.new ≡ noted_at now standing self.old }
     {
@@ -61,7 +61,7 @@ impl Steady {
         }
     }
 
-    /// Returns whether the latest three windows are the same, and more than 15 ms stood in each.
+    /// Returns whether the latest three windows are the same, and the queueing delay is above 15 ms in each.
     pub fn is_steady(&self) -> bool
         ensures { result ≡ is_steady self.now }
     {

@@ -4,7 +4,7 @@ ghost use Rattle.codec_payload_bandwidth_estimate.specs.Arrivals.{LinkIsMeasured
 ghost use Rattle.codec_payload_bandwidth_estimate.specs.Delays.{AnyClockServes};
 ghost use Rattle.codec_payload_bandwidth_estimate.specs.Rates.{RisesByTrials, StaysWithin, TrialAscends};
 
-/// Proves for any packets that another clock of the receiver changes nothing of what stands in the queue: if each arrival has the same
+/// Proves for any packets that another clock of the receiver changes nothing of the queueing delay: if each arrival has the same
 /// time more, [`Delays::standing`] and [`Delays::above`] return the same.
 ///
 /// [`Delays::standing`]: crate::delays::Delays::standing

@@ -55,7 +55,7 @@ new_estimate now start least most = record {
 
 -- ---- packets
 
--- a packet that arrived: it waited if more than 12 ms stood
+-- a packet that arrived: it waited if its queueing delay is above 12 ms
 abbrev pub with_arrival : (sent at size : ℕ) → Estimate → Estimate
 with_arrival sent at size e = record e {
   losses = after_fate false e.losses;
@@ -119,7 +119,7 @@ fall_watch now round_trip standing in_trial w = record w {
   steps = 1;
 }
 
--- a row of falls begins with the first one: what stands counts from a round trip later on
+-- a series of falls begins with the first one: the queueing delay counts from a round trip later on
 abbrev pub row_of : (now round_trip rate lost : ℕ) → Option Falls → Falls
 row_of now round_trip rate lost None = record { rate = rate; lost = lost; steady = begun_at (later now round_trip) }
 row_of now round_trip rate lost (Some f) = f
@@ -163,7 +163,7 @@ abbrev pub with_trial_end : ℕ → Option Trial → Estimate → Estimate
 with_trial_end now None e = e
 with_trial_end now (Some trial) e = if nat_le 800000 (e.watch.newest - trial.begun.0) then after_trial now trial.to e else e
 
--- without a queue that is being emptied no row of falls goes on
+-- without a queue that is being emptied no series of falls goes on
 abbrev pub rested : Watch → Estimate → Estimate
 rested w e = record e { watch = w; falls = if w.draining then e.falls else None }
 
@@ -182,7 +182,7 @@ after_return now e =
 abbrev pub falls_noted : (now standing : ℕ) → Falls → Falls
 falls_noted now standing f = record f { steady = noted_at now standing f.steady }
 
--- what stands is steady, and few more packets are lost than before
+-- the queueing delay is steady, and few more packets are lost than before
 abbrev pub is_longer : (now lost follows : ℕ) → Falls → Bool
 is_longer now lost follows f = nat_le follows now && is_steady f.steady && nat_le lost (min (f.lost + 20) end_of_time)
 

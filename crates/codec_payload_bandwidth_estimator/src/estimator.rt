@@ -18,13 +18,13 @@ const TOLERATED: u64 = 30_000;
 /// The queue that ends a trial.
 const TOLERATED_IN_TRIAL: u64 = 20_000;
 
-/// The queue that no packet counts as having waited in, and that may stand at the end of a trial that ended well.
+/// The queue that no packet counts as having waited in, and that may remain at the end of a trial that ended well.
 const CLEAR: u64 = 12_000;
 
 /// The queue at which the path counts as empty again.
 const CALM: u64 = 15_000;
 
-/// After this time of a trial what stands counts for its end.
+/// After this time of a trial the queueing delay counts for its end.
 const SETTLED: u64 = 700_000;
 
 /// How long a trial takes.
@@ -52,7 +52,7 @@ pub enum PacketOutcome {
     Arrived(u64),
     /// It did not arrive.
     Lost,
-    /// The feedback that would tell was lost.
+    /// The feedback that would say so was lost.
     Unknown,
 }
 
@@ -69,7 +69,7 @@ pub struct PacketFate {
 /// The times of an estimator, in microseconds, and what it remembers beside them.
 #[derive(Clone, Copy, Debug, PartialEq, Eq)]
 pub(crate) struct Watch {
-    /// When the newest packet was sent of which feedback told.
+    /// When the newest packet was sent that feedback reported.
     pub(crate) newest: u64,
     /// When the first packet left since feedback came, or since the rate was halved.
     pub(crate) waits: Option<u64>,
@@ -79,9 +79,9 @@ pub(crate) struct Watch {
     pub(crate) next: u64,
     /// How long the wait for a trial is, if one fails.
     pub(crate) wait: u64,
-    /// The least that stood at the end of this trial.
+    /// The least queueing delay at the end of this trial.
     pub(crate) least: u64,
-    /// What stands usually, where no queue does.
+    /// The usual queueing delay, where no packet waits in a queue.
     pub(crate) usual: u64,
     /// The queue is being emptied.
     pub(crate) draining: bool,
@@ -93,22 +93,22 @@ pub(crate) struct Watch {
     pub(crate) follows: u64,
 }
 
-/// A row of falls: from the first one until the path is at rest.
+/// A series of falls: from the first one until the path is at rest.
 #[derive(Clone, Copy, Debug, PartialEq, Eq)]
 pub(crate) struct Falls {
     /// The rate before the first of them, in bits per second.
     pub(crate) rate: u64,
     /// The usual losses then, in thousandths.
     pub(crate) lost: u64,
-    /// Whether what stands stays the same meanwhile.
+    /// Whether the queueing delay stays the same meanwhile.
     pub(crate) steady: Steady,
 }
 
 /// The rate that the path to a viewer carries, by what its feedback says.
 ///
-/// It rises only by a trial that ended well, and falls to what the link carries while a queue stands, or if far more packets are lost than
-/// usually. It lies within its bounds whatever feedback says. Times are in microseconds, rates in bits per second. It takes about 8 kB.
-/// No call allocates.
+/// It rises only by a trial that ended well, and falls to what the link carries while packets wait in a queue, or if far more packets are
+/// lost than usually. It lies within its bounds whatever feedback says. Times are in microseconds, rates in bits per second. It takes about
+/// 8 kB. No call allocates.
 #[derive(Clone, Copy, Debug)]
 pub struct BandwidthEstimator {
     delays: Delays,
@@ -200,7 +200,7 @@ impl BandwidthEstimator {
         self.watch.draining
     }
 
-    /// Returns how long packets stand in the queue, in microseconds.
+    /// Returns how long packets wait in the queue, in microseconds.
     pub fn standing(&self) -> u64
         ensures { result ≡ standing_in self.now.delays }
     {
@@ -286,7 +286,7 @@ impl BandwidthEstimator {
         }
     }
 
-    /// Feedback came after a silence, and no queue stands: the rate is at least half of the one from before, and a trial is due.
+    /// Feedback came after a silence, and no packet waits in a queue: the rate is at least half of the one from before, and a trial is due.
     fn return_from_silence(&mut self, now: Ticks)
         ensures { self.new ≡ after_return now.0 self.old }
     {
@@ -297,8 +297,8 @@ impl BandwidthEstimator {
         }
     }
 
-    /// Notes what stands in a row of falls. If it stays the same, the way is longer: the rate is at least half of the one from before,
-    /// and a trial is due.
+    /// Notes the queueing delay in a series of falls. If it stays the same, the way is longer: the rate is at least half of the one from
+    /// before, and a trial is due.
     fn watch_way(&mut self, now: Ticks, standing: u64)
         ensures { self.new ≡ after_way now.0 standing self.old }
     {
@@ -378,7 +378,7 @@ impl BandwidthEstimator {
         self.trial = None;
     }
 
-    /// No queue stands: what stands usually is noted, and a trial ends after its time.
+    /// No packet waits in a queue: the usual queueing delay is noted, and a trial ends after its time.
     fn rest(&mut self, now: Ticks, standing: u64)
         ensures { self.new ≡ after_rest now.0 standing self.old }
     {
@@ -410,14 +410,14 @@ impl BandwidthEstimator {
     }
 }
 
-/// Returns how long packets stand in the queue.
+/// Returns how long packets wait in the queue.
 fn standing(delays: &Delays) -> u64
     ensures { result ≡ standing_in delays.now }
 {
     delays.standing().min(u128::from(u64::MAX)) as u64
 }
 
-/// Returns what feedback changes at once: nothing is waited for, and the least that stands at the end of a trial.
+/// Returns what feedback changes at once: nothing is waited for, and the least queueing delay at the end of a trial.
 fn watched(standing: u64, trial: Option<Trial>, watch: Watch) -> Watch
     ensures { result ≡ watched standing trial watch }
 {
@@ -434,7 +434,7 @@ fn watched(standing: u64, trial: Option<Trial>, watch: Watch) -> Watch
     }
 }
 
-/// Returns whether a longer queue stands than is tolerated.
+/// Returns whether a queue is longer than is tolerated.
 fn is_over(standing: u64, in_trial: bool, usual: u64) -> bool
     ensures { result ≡ is_over standing in_trial usual }
 {
@@ -468,7 +468,7 @@ fn silent_watch(now: u64, rate: u64, watch: Watch) -> Watch
     }
 }
 
-/// Returns the row that a fall belongs to: the one under way, or a new one, which begins with this rate and these usual losses.
+/// Returns the series that a fall belongs to: the one under way, or a new one, which begins with this rate and these usual losses.
 fn row(now: u64, round_trip: u64, rate: u64, lost: u64, falls: Option<Falls>) -> Falls
     ensures { result ≡ row_of now round_trip rate lost falls }
 {
@@ -482,7 +482,7 @@ fn row(now: u64, round_trip: u64, rate: u64, lost: u64, falls: Option<Falls>) ->
     }
 }
 
-/// Returns a row after what stands at this time.
+/// Returns a series after the queueing delay at this time.
 fn noted_falls(now: u64, standing: u64, falls: Falls) -> Falls
     ensures { result ≡ falls_noted now standing falls }
 {
@@ -491,7 +491,7 @@ fn noted_falls(now: u64, standing: u64, falls: Falls) -> Falls
     Falls { steady, ..falls }
 }
 
-/// Returns whether a row of falls shows a longer way: what stands is steady, and few more packets are lost than before.
+/// Returns whether a series of falls shows a longer way: the queueing delay is steady, and few more packets are lost than before.
 fn is_longer(now: u64, lost: u64, follows: u64, falls: Falls) -> bool
     ensures { result ≡ is_longer now lost follows falls }
 {
@@ -555,7 +555,7 @@ fn fall_watch(now: u64, round_trip: u64, standing: u64, in_trial: bool, watch: W
     }
 }
 
-/// Returns the times while no queue stands.
+/// Returns the times while no packet waits in a queue.
 fn rest_watch(standing: u64, in_trial: bool, watch: Watch) -> Watch
     ensures { result ≡ rest_watch standing in_trial watch }
 {
@@ -578,7 +578,7 @@ fn average(usual: u64, standing: u64) -> u64
     ((u128::from(usual) * 7 + u128::from(standing)) / 8).min(u128::from(CALM)) as u64
 }
 
-/// Returns whether a trial of this rate ended well: 70 percent of it arrived, and no more stands than what is usual and 12 ms.
+/// Returns whether a trial of this rate ended well: 70 percent of it arrived, and the queueing delay is at most the usual one and 12 ms.
 fn ended_well(arrivals: &Arrivals, to: u64, watch: Watch) -> bool
     ensures { result ≡ ended_well arrivals.now to watch }
 {

@@ -1,4 +1,4 @@
-//! The rate that a path carries: up by trials, down by a queue that stands.
+//! The rate that a path carries: up by trials, down by a standing queue.
 #![tactic(auto)]
 
 pub mod estimator;

@@ -1,4 +1,4 @@
--- The rate that a publisher is told. Times are in microseconds, rates in bits per second.
+-- The rate that is offered to a publisher. Times are in microseconds, rates in bits per second.
 use Rattle.std.specs.Prelude.{ℕ, ◌+◌, ◌-◌, ◌*◌, ◌/◌, ◌%◌, ◌^◌, ◌||◌, min, nat_le, nat_lt, if◌then◌else◌, Bool, Option, Some, None}
 use Rattle.codec_payload_base.specs.Extended.{extended}
 use Rattle.codec_payload_bandwidth_estimator.specs.Estimates.{Estimate, after_noted, after_tick, new_estimate, noted, pace_of}
@@ -6,7 +6,7 @@ use Rattle.codec_payload_bandwidth_estimator.specs.declared.estimator.PacketOutc
 use Rattle.codec_payload_bandwidth_offer.specs.declared.offer.OfferSettings.{OfferSettings}
 
 -- `clock`: the latest abs-send-time, in units of 2^-26 seconds; `sent` and `arrived`: the latest packet by the publisher's clock, and by
--- the own one; the rate that was told, and when; no judgement before `next`
+-- the own one; the latest offer, and its time; no judgement before `next`
 pub record Offer : Type 0 where
   pub estimator : Estimate
   pub wants : ℕ
@@ -80,7 +80,7 @@ due_of now o = if is_told now o then Some (offered now o) else None
 abbrev pub told_by : ℕ → Offer → Offer
 told_by now o = if is_told now o then record o { told = offered now o; told_at = now } else o
 
--- the rate that is told, if one is due
+-- the rate that is offered, if an offer is due
 abbrev pub rate_due : (now round_trip : ℕ) → Offer → Option ℕ
 rate_due now round_trip o = if nat_lt now o.next then None else due_of now (judged_at now round_trip o)
 

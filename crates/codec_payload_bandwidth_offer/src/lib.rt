@@ -1,4 +1,4 @@
-//! The rate that a publisher is told, by how its packets arrive.
+//! The rate that is offered to a publisher, by how its packets arrive.
 #![tactic(auto)]
 
 pub mod offer;

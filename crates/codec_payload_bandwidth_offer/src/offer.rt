@@ -1,4 +1,4 @@
-//! The rate that a publisher is told, by how its packets arrive.
+//! The rate that is offered to a publisher, by how its packets arrive.
 
 ghost use Rattle.std.specs.Prelude.{◌≡◌, ◌≤◌, IfSome};
 ghost use Rattle.codec_payload_bandwidth_offer.specs.Offers.{after_arrival, after_due, after_lost, clock_at, clock_with, judged_at, micros_of, new_offer, offered, rate_due, higher, is_due, trial_if};
@@ -14,10 +14,10 @@ const CLOCK: u64 = 17_179_869_184;
 /// The path is judged once in this time, in microseconds.
 const INTERVAL: u64 = 50_000;
 
-/// The rate is told once in this time, if it stays the same, in microseconds.
+/// The rate is offered once in this time, if it stays the same, in microseconds.
 const LONGEST: u64 = 1_000_000;
 
-/// How a publisher is told a rate. Rates are in bits per second.
+/// How a rate is offered to a publisher. Rates are in bits per second.
 #[derive(Clone, Copy, Debug, PartialEq, Eq)]
 pub struct OfferSettings {
     /// The estimate of the publisher's path at the beginning. 300,000 by default.
@@ -26,7 +26,7 @@ pub struct OfferSettings {
     pub least: u64,
     /// No estimate is above this rate. 10,000,000 by default.
     pub most: u64,
-    /// What you want from the publisher: no rate that it is told is above. 2,500,000 by default.
+    /// What you want from the publisher: no offer is above it. 2,500,000 by default.
     pub wants: u64,
 }
 
@@ -44,12 +44,12 @@ impl OfferSettings {
     }
 }
 
-/// The rate that a publisher is told, for a session with REMB in place of transport-wide feedback: what its path carries, and at most what
-/// you want.
+/// The rate that is offered to a publisher, for a session with REMB in place of transport-wide feedback: what its path carries, and at most
+/// what you want.
 ///
-/// Note each packet that arrives, with the time at which the publisher sent it. The estimate falls to what the path carries while a
-/// queue stands. While none stands, the publisher is told a fifth more for 0.8 s; if it sends at least 84 percent of its rate then,
-/// the estimate rises by that fifth. Times are in microseconds. It takes about 8 kB. No call allocates.
+/// Note each packet that arrives, with the time at which the publisher sent it. The estimate falls to what the path carries while
+/// packets wait in a queue. While none waits, the publisher is offered a fifth more for 0.8 s; if it sends at least 84 percent of its rate
+/// then, the estimate rises by that fifth. Times are in microseconds. It takes about 8 kB. No call allocates.
 #[derive(Clone, Copy, Debug)]
 pub struct RateOffer {
     /// It lives in the time of the publisher's clock.
@@ -62,7 +62,7 @@ pub struct RateOffer {
     arrived: u64,
     /// No judgement before.
     next: u64,
-    /// The rate that the publisher was told, and when.
+    /// The latest offer to the publisher, and its time.
     told: u64,
     told_at: u64,
 }
@@ -99,7 +99,7 @@ impl RateOffer {
         }
     }
 
-    /// Sets what you want from the publisher: from now on it is told no rate above.
+    /// Sets what you want from the publisher: no later offer is above it.
     pub fn set_wants(&mut self, wants: u64)
         ensures { self.new ≡ record self.old { wants = wants } }
     {
@@ -157,8 +157,8 @@ impl RateOffer {
         self.estimator.pace(self.time(now)).min(self.wants)
     }
 
-    /// Judges the path, each 50 ms at most. Returns the rate to tell the publisher if one is due: each second, and at once if it changed by
-    /// a thirty-second.
+    /// Judges the path, each 50 ms at most. Returns the rate to offer to the publisher if one is due: each second, and at once if it
+    /// changed by a thirty-second.
     pub fn take_due(&mut self, now: Ticks, round_trip: u64) -> Option<u64>
         ensures due { result ≡ rate_due now.0 round_trip self.old }
         ensures most { IfSome result (λ rate. rate ≤ self.old.wants) }
@@ -225,7 +225,7 @@ fn higher(rate: u64) -> u64
     rate.saturating_add(rate / 5)
 }
 
-/// Returns whether a rate is to be told: it changed by a thirty-second, or it was told a second ago.
+/// Returns whether an offer is due: the rate changed by a thirty-second, or the latest offer was made a second ago.
 fn is_due(now: u64, rate: u64, told: u64, told_at: u64) -> bool
     ensures { result ≡ is_due now rate told told_at }
 {

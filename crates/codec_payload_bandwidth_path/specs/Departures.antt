@@ -77,7 +77,7 @@ reported_fates clock [] statuses = []
 reported_fates clock (d ∷ ds) [] = []
 reported_fates clock (d ∷ ds) (status ∷ statuses) = fate_by clock d status ∷ reported_fates clock ds statuses
 
--- the packets before this feedback of which no feedback was heard are unknown; of its own packets those count of which none was heard
+-- the packets before this feedback that no feedback reported are unknown; of the packets of this feedback those count that none reported
 abbrev pub fates_from : ℕ → List (Option ℕ) → Departed → List PacketFate
 fates_from base statuses d =
     unknown_fates (departed_in (open_index d) (max base (open_index d)) d)

@@ -94,7 +94,7 @@ pub struct PathStatistics {
     pub estimate: u64,
     /// What is left of it for first transmissions, in bits per second.
     pub carries: u64,
-    /// How long packets stand in the queue of the path, in microseconds.
+    /// How long packets wait in the queue of the path, in microseconds.
     pub standing: u64,
     /// The usual losses, in thousandths.
     pub usual_losses: u64,

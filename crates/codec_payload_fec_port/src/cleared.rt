@@ -1,26 +1,15 @@
 //! Rebuilt packets for a session: without the elements of header extensions that a sender fills in late.
 
-ghost use Rattle.std.specs.Prelude.{◌≡◌, ◌++◌, ◌+◌, length, IfOk, IsTrue, OnOk, Option};
-ghost use Rattle.codec_payload_rtp.specs.RtpPackets.{FitsHeader, header_fits, packet_bytes};
+ghost use Rattle.std.specs.Prelude.{◌≡◌, ◌++◌, ◌+◌, length, IfOk, OnOk, Option};
+ghost use Rattle.codec_payload_rtp.specs.RtpPackets.{FitsHeader, packet_bytes};
 ghost use Rattle.codec_payload_rtp.specs.RtpReading.{rtp_at};
 ghost use Rattle.codec_payload_rtp.specs.RtpValues.{extension_of, header_of, packet_of};
-ghost use Rattle.codec_payload_fec_receiver.specs.Late.{is_id};
 ghost use Rattle.codec_payload_fec_port.specs.Cleared.{cleared, cleared_at, cleared_element, cleared_extension, cleared_packet, front_of, is_late};
 
-use codec_payload_fec_receiver::late::LateIds;
+use codec_payload_fec_receiver::late::{LateIds, is_id, written};
 use codec_payload_rtp::elements::{ElementForm, front_element};
-use codec_payload_rtp::rtp::{HeaderExtension, PacketHeader, RtpPacket};
+use codec_payload_rtp::rtp::{HeaderExtension, RtpPacket};
 use std::alloc::{AllocError, Global};
-
-/// Returns whether this is the known id.
-fn is_id(known: Option<u8>, id: u8) -> bool
-    ensures { result ≡ is_id known id }
-{
-    match known {
-        Some(known) => known == id,
-        None => false,
-    }
-}
 
 /// Returns whether the element with this id is filled in late.
 fn is_late(late: &LateIds, id: u8) -> bool
@@ -104,28 +93,6 @@ fn cleared_words(
     let mut words = Vec::with_capacity(alloc, extension.bytes.len())?;
     put_cleared(late, form, extension.bytes, &mut words)?;
     Ok(words)
-}
-
-/// Returns a packet with this extension.
-fn written(
-    alloc: Global,
-    packet: &RtpPacket<'_>,
-    extension: Option<HeaderExtension<'_>>,
-) -> Result<Vec<u8>, AllocError>
-    requires { IsTrue (header_fits (record (header_of packet.now.header) { extension = extension_of extension })) }
-    ensures { IfOk result (λ bytes. bytes.items ≡ packet_bytes (record (packet_of packet.now) { header = record (header_of packet.now.header) { extension = extension_of extension.entry } })) }
-{
-    let packet = RtpPacket {
-        header: PacketHeader {
-            extension,
-            ..packet.header
-        },
-        payload: packet.payload,
-        padding: packet.padding,
-    };
-    let mut out = Vec::new(alloc);
-    packet.write(&mut out)?;
-    Ok(out)
 }
 
 /// Returns a packet with padding in the place of the elements that are filled in late.

@@ -29,7 +29,7 @@ pub struct FecPortSettings {
     /// The payload type of retransmissions of packets in RED: the one whose `apt` is RED. `None`: there is none.
     pub red_retransmission: Option<u8>,
     /// The payload types of retransmissions of media. A retransmission of a packet in RED becomes one of its media. If a payload type of
-    /// media stands at several places, the first one counts.
+    /// media is at several places, the first one counts.
     pub retransmissions: Vec<RetransmissionType>,
     /// Which header extensions senders fill in late.
     pub late_ids: LateIds,
@@ -54,7 +54,7 @@ pub enum FecPortSettingsError {
     TwoMeanings(u8),
 }
 
-/// Returns whether a number is a payload type that no packet of RTCP looks like.
+/// Returns whether a number is a payload type that differs from the types of RTCP.
 fn is_a_type(payload_type: u8) -> bool
     ensures { result ≡ is_a_type payload_type }
 {

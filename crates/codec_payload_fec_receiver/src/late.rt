@@ -24,7 +24,7 @@ pub struct LateIds {
 }
 
 /// Returns whether this is the known id.
-fn is_id(known: Option<u8>, id: u8) -> bool
+pub fn is_id(known: Option<u8>, id: u8) -> bool
     ensures { result ≡ is_id known id }
 {
     match known {
@@ -129,7 +129,11 @@ fn zeroed_words(
 }
 
 /// Returns a packet with this extension.
-fn written(
+///
+/// # Errors
+///
+/// Out of memory.
+pub fn written(
     alloc: Global,
     packet: &RtpPacket<'_>,
     extension: Option<HeaderExtension<'_>>,

@@ -78,7 +78,7 @@ place_in number (suc k) frame = if is_before number (number_of (get_or frame k [
 abbrev pub with_packet : List ℕ → List (List ℕ) → List (List ℕ)
 with_packet p frame = insert frame (place_in (number_of p) (length frame) frame) p
 
--- FEC is to be made for a packet: it has a payload, no FEC stands behind it, and there are fewer than 512
+-- FEC is to be made for a packet: it has a payload, no FEC follows it, and there are fewer than 512
 abbrev pub is_protecting : FecWriter → Bool
 is_protecting w = nat_lt 0 w.protection || nat_lt 0 w.keyframe_protection
 

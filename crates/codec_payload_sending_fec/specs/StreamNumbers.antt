@@ -1,8 +1,8 @@
--- The numbers of a stream in which packets of FEC stand behind the frames.
+-- The numbers of a stream in which packets of FEC follow the frames.
 use Rattle.std.specs.Prelude.{ℕ, ◌+◌, ◌-◌, ◌%◌, nat_le, nat_lt, if◌then◌else◌, Bool, true, false, List, [], ◌∷◌, length, take, get_or, Option, Some, None}
 use Rattle.codec_payload_base.specs.Extended.{nearest}
 
--- packets of FEC: the number of the media behind which they stand, and how many they are
+-- packets of FEC: the number of the media that they follow, and how many they are
 pub record Step : Type 0 where
   pub behind : ℕ
   pub count : ℕ
@@ -24,7 +24,7 @@ abbrev pub counted : Option ℕ → ℕ → ℕ
 counted None number = 65536 + number
 counted (Some highest) number = nearest 65536 highest number
 
--- a number without the FEC that stands behind it
+-- a number without the FEC that follows it
 unfoldable pub without_later : ℕ → ℕ → List Step → ℕ
 without_later n sent [] = sent
 without_later n sent (x ∷ xs) = if nat_le n x.behind then without_later n ((sent + 65536 - x.count) % 65536) xs else sent
@@ -37,7 +37,7 @@ sent_by (Some highest) m n = without_later n ((n + m.shift) % 65536) m.steps
 abbrev pub sent_as : Numbers → ℕ → ℕ
 sent_as m n = sent_by m.highest m n
 
--- FEC stands behind the number
+-- FEC follows the number
 abbrev pub is_behind : ℕ → List Step → Bool
 is_behind n [] = false
 is_behind n (x ∷ xs) = nat_le n x.behind

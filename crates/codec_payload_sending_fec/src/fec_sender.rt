@@ -81,8 +81,8 @@ pub enum FecSendError {
 /// Puts the packets of one stream in RED (RFC 2198), and writes packets of FEC (RFC 5109) behind each frame, between a `Sender` or a
 /// `Forwarder` and the socket.
 ///
-/// Media and FEC share the numbers of the stream: a packet has its own number, plus a constant, plus one for each packet of FEC below it. So
-/// packets keep their order, a gap stays a gap, and FEC stands behind its frame. Keep what it writes in a `History` for requests.
+/// Media and FEC share the numbers of the stream: a packet has its own number, plus a constant, plus one for each packet of FEC below it.
+/// So packets keep their order, a gap stays a gap, and FEC follows its frame. Keep what it writes in a `History` for requests.
 #[derive(Drop)]
 pub struct FecSender {
     alloc: Global,
@@ -108,7 +108,7 @@ impl Model for FecSender {
     ghost invariant = { λ s. (s.settings.red_type < 128) × (s.settings.fec_type < 128) × AreShort (map (λ p. p.items) s.frame.items) };
 }
 
-/// Returns the first fault of a packet of so many bytes.
+/// Returns the first fault of a packet of this length in bytes.
 fn fault_of(
     settings: &FecSenderSettings,
     size: usize,

@@ -1,4 +1,4 @@
-//! The numbers of a stream in which packets of FEC stand behind the frames.
+//! The numbers of a stream in which packets of FEC follow the frames.
 
 ghost use Rattle.std.specs.Prelude.{◌≡◌, ◌<◌, ◌+◌, ◌-◌, ◌%◌, length, slice_index_or, OnErr, OnOk};
 ghost use Rattle.std.specs.VecDeque.{deque_len, deque_capacity};
@@ -16,7 +16,7 @@ const STEPS: usize = 64;
 /// Packets of FEC that were written.
 #[derive(Clone, Copy, Debug)]
 pub(crate) struct FecStep {
-    /// The number of the media behind which they stand.
+    /// The number of the media that they follow.
     behind: u64,
     /// How many they are.
     count: u16,
@@ -62,14 +62,14 @@ fn step_at(steps: &VecDeque<FecStep>, place: usize) -> FecStep
     steps[place]
 }
 
-/// Returns a number that is so many lower.
+/// Returns a number that is lower by `count`.
 fn lower(number: u16, count: u16) -> u16
     ensures { result ≡ (number + 65536 - count) % 65536 }
 {
     number.wrapping_sub(count)
 }
 
-/// Returns a number without the FEC that stands behind it.
+/// Returns a number without the FEC that follows it.
 fn without_later(number: u64, sent: u16, steps: &VecDeque<FecStep>) -> u16
     ensures { result ≡ without_later number sent (steps_of steps.now.items) }
 {
@@ -137,7 +137,7 @@ impl StreamNumbers {
         }
     }
 
-    /// Returns whether FEC stands behind a number.
+    /// Returns whether FEC follows a number.
     pub(crate) fn is_late(&self, number: u64) -> bool
         ensures { result ≡ is_late self.now number }
     {

@@ -49,7 +49,8 @@ use Rattle.codec_payload_session_runs.proofs.TripLemmas.{exchanged_streams, told
 use Rattle.codec_payload_session_runs.proofs.EndingLemmas.{Same, steps_asked}
 use Rattle.codec_payload_session_runs.proofs.FateLemmas.{AreApart, found_none, of_is, of_same}
 use Rattle.codec_payload_session_runs.proofs.ReachedLemmas.{Reached, by_streams, reached, reached_more, Same as SameOrReported}
-use Rattle.codec_payload_session_runs.proofs.StreamLemmas.{Kind, keeps_left, steps_stepped}
+use Rattle.codec_payload_session_runs.proofs.PollLemmas.{Kind, steps_stepped}
+use Rattle.codec_payload_session_runs.proofs.StreamLemmas.{keeps_left}
 use Rattle.codec_payload_session_runs.specs.Endings.{HasBegun, HasRoom, NoEnd, RunsWithRoom, TwoDatagramsBegin, accepted_as, ends_it, is_accepted_by, is_end_of}
 use Rattle.codec_payload_session_runs.specs.Lives.{IsAbsent, events_by, is_same, one_event}
 use Rattle.codec_payload_session_runs.specs.SessionRuns.{AddsPair, Call, Does}

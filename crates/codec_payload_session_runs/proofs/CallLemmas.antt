@@ -47,7 +47,8 @@ use Rattle.codec_payload_session_runs.proofs.AloneLemmas.{finishes_append, made_
 use Rattle.codec_payload_session_runs.proofs.FateLemmas.{AreApart, AreFates, AreKnown, BeginsNow, Evolves, GoAll, IsFate, IsSilent, ShowsNothing, absent_middle, all_fates, all_stay, evolves_all, evolves_map, evolves_same, fates_append, found_none, mapped_all, one_goes, others_go, present, present_all, present_append, same_sym}
 use Rattle.codec_payload_session_stream.specs.Trips.{with_round_trip}
 use Rattle.codec_payload_session_runs.proofs.TripLemmas.{exchanged_streams, told_if}
-use Rattle.codec_payload_session_runs.proofs.StreamLemmas.{FinishedBy, Goes, HasPart, IsKnown, Keeps, Kind, Stepped, call_of, fed_goes, given_arrival, given_is, keeps_left, none_finished, own_waits, silent_goes, trip_ranges, steps_stepped, edges_stay}
+use Rattle.codec_payload_session_runs.proofs.PollLemmas.{Kind, Stepped, steps_stepped}
+use Rattle.codec_payload_session_runs.proofs.StreamLemmas.{FinishedBy, Goes, HasPart, IsKnown, Keeps, call_of, fed_goes, given_arrival, given_is, keeps_left, none_finished, own_waits, silent_goes, trip_ranges, edges_stay}
 use Rattle.codec_payload_session_runs.proofs.WaitRangeLemmas.{asked_range}
 use Rattle.codec_payload_session_runs.specs.Lives.{AreMadeBy, AreOfOne, FollowedWaits, IsAbsent, IsMadeAs, IsPart, IsReportEvent, ReceiverCall, StartsWithDatagram, age_range, events_by, events_in, given_by, is_same, many_reports, one_call, pairs, receives, released_by, reports, shown, shown_in, waits}
 use Rattle.codec_payload_session_runs.specs.SessionRuns.{Call}

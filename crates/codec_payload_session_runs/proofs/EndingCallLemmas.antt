@@ -58,7 +58,8 @@ use Rattle.codec_payload_session_runs.proofs.EndingLemmas.{began_more, AllJustif
 use Rattle.codec_payload_session_runs.proofs.CallLemmas.{at_place}
 use Rattle.codec_payload_session_runs.proofs.FateLemmas.{AreApart, found_none, of_is, number_sym}
 use Rattle.codec_payload_session_runs.proofs.ReachedLemmas.{AllAloneIn, AloneIn, Reached, by_streams, reached, reached_more, reached_new, runs_split, Same as SameOrReported}
-use Rattle.codec_payload_session_runs.proofs.StreamLemmas.{FinishedBy, IsOwn, Kind, call_of, given_is, same_is, steps_stepped}
+use Rattle.codec_payload_session_runs.proofs.PollLemmas.{IsOwn, Kind, steps_stepped}
+use Rattle.codec_payload_session_runs.proofs.StreamLemmas.{FinishedBy, call_of, given_is, same_is}
 use Rattle.codec_payload_session_runs.specs.Endings.{BeganWith, EachFinishHasCause, EndsHaveCauses, FinishHasCause, FinishesHaveCauses, HasCause, IsCause, last_given, names_other, or_before, time_given, time_named}
 use Rattle.codec_payload_session_runs.specs.Lives.{IsAbsent, StartsWithDatagram, ending_poll, is_same, many_finishes, one_event}
 use Rattle.codec_payload_stream_edges.specs.declared.followed.Followed.{Followed}

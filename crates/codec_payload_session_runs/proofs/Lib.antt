@@ -6,6 +6,7 @@ pub mod CountLemmas
 pub mod EndingCallLemmas
 pub mod EndingLemmas
 pub mod FateLemmas
+pub mod PollLemmas
 pub mod ReachedLemmas
 pub mod RunLemmas
 pub mod StreamLemmas

@@ -56,9 +56,7 @@ pub enum Ending {
     Timeout,
     /// The caller ended it.
     ByCall,
-    /// Its sender continues in another format under the same SSRC, or its format is gone ([`Session::set_formats`]).
-    ///
-    /// [`Session::set_formats`]: codec_payload_session::session::Session::set_formats
+    /// Its sender continues in another format under the same SSRC, or its format is gone (`Session::set_formats`).
     Changed,
 }
 
@@ -74,9 +72,7 @@ pub enum Stage {
     Draining(Ending),
 }
 
-/// A stream of a session, as [`Session::stream_at`] reports it.
-///
-/// [`Session::stream_at`]: codec_payload_session::session::Session::stream_at
+/// A stream of a session, as `Session::stream_at` reports it.
 #[derive(Clone, Copy, Debug)]
 pub struct StreamInfo {
     pub ssrc: u32,

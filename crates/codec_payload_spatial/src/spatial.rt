@@ -68,7 +68,7 @@ fn begins_picture(place: SpatialPlace) -> bool
     place.begins && place.layer == 0
 }
 
-/// Returns what becomes of a packet if the layers up to `kept` are kept.
+/// Returns what a packet becomes if the layers up to `kept` are kept.
 fn decided(kept: u8, place: SpatialPlace, marker: bool) -> Option<bool>
     ensures { result ≡ decided kept place marker }
 {

@@ -40,14 +40,14 @@ impl PathRate {
         self.estimate = self.estimate.max(to).min(self.most);
     }
 
-    /// A queue stands, and `found` is what the link carries: the rate falls to it, at most to a quarter, and never rises.
+    /// Packets wait in a queue, and `found` is what the link carries: the rate falls to it, at most to a quarter, and never rises.
     pub fn fall(&mut self, found: u64) {
         let lower = found.max(self.estimate / 4).min(self.estimate);
         self.estimate = lower.max(self.least);
     }
 
-    /// A queue stands in a trial of the rate `to`, and `found` is what the link carries: what was shown before stays, and the rate rises to
-    /// what the link carries beyond, at most to that of the trial.
+    /// Packets wait in a queue in a trial of the rate `to`, and `found` is what the link carries: what was shown before stays, and the rate
+    /// rises to what the link carries beyond, at most to that of the trial.
     pub fn settle(&mut self, found: u64, to: u64) {
         let higher = found.min(to).max(self.estimate);
         self.estimate = higher.min(self.most);
@@ -59,7 +59,8 @@ impl PathRate {
     }
 }
 
-/// A trial: padding fills what is sent up to a rate that rises from `from` to `to` in 500 ms, and stays there. Rates are in bits per second.
+/// A trial: padding fills what is sent up to a rate that rises from `from` to `to` in 500 ms, and stays there. Rates are in bits per
+/// second.
 #[derive(Clone, Copy, Debug, PartialEq, Eq)]
 pub struct Trial {
     /// When it began, in microseconds.

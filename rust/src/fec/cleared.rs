@@ -2,19 +2,11 @@
 
 //! Rebuilt packets for a session: without the elements of header extensions that a sender fills in late.
 
-use crate::fec::late::LateIds;
+use crate::fec::late::{LateIds, is_id, written};
 use crate::memory::{AllocError, TryVec};
 use crate::rtp::elements::{ElementForm, front_element};
-use crate::rtp::packet::{HeaderExtension, PacketHeader, RtpPacket};
+use crate::rtp::packet::{HeaderExtension, RtpPacket};
 use alloc::vec::Vec;
-
-/// Returns whether this is the known id.
-fn is_id(known: Option<u8>, id: u8) -> bool {
-    match known {
-        Some(known) => known == id,
-        None => false,
-    }
-}
 
 /// Returns whether the element with this id is filled in late.
 fn is_late(late: &LateIds, id: u8) -> bool {
@@ -80,24 +72,6 @@ fn cleared_words(late: &LateIds, extension: &HeaderExtension<'_>) -> Result<Vec<
     let mut words = Vec::try_of_capacity(extension.bytes.len())?;
     put_cleared(late, form, extension.bytes, &mut words)?;
     Ok(words)
-}
-
-/// Returns a packet with this extension.
-fn written(
-    packet: &RtpPacket<'_>,
-    extension: Option<HeaderExtension<'_>>,
-) -> Result<Vec<u8>, AllocError> {
-    let packet = RtpPacket {
-        header: PacketHeader {
-            extension,
-            ..packet.header
-        },
-        payload: packet.payload,
-        padding: packet.padding,
-    };
-    let mut out = Vec::new();
-    packet.write(&mut out)?;
-    Ok(out)
 }
 
 /// Returns a packet with padding in the place of the elements that are filled in late.

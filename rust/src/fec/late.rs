@@ -22,7 +22,7 @@ pub struct LateIds {
 }
 
 /// Returns whether this is the known id.
-fn is_id(known: Option<u8>, id: u8) -> bool {
+pub(crate) fn is_id(known: Option<u8>, id: u8) -> bool {
     match known {
         Some(known) => known == id,
         None => false,
@@ -107,7 +107,11 @@ fn zeroed_words(late: &LateIds, extension: &HeaderExtension<'_>) -> Result<Vec<u
 }
 
 /// Returns a packet with this extension.
-fn written(
+///
+/// # Errors
+///
+/// Out of memory.
+pub(crate) fn written(
     packet: &RtpPacket<'_>,
     extension: Option<HeaderExtension<'_>>,
 ) -> Result<Vec<u8>, AllocError> {

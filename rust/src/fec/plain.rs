@@ -86,7 +86,7 @@ fn without_media<'a>(settings: &FecPortSettings, header: PacketHeader<'a>) -> Rt
     }
 }
 
-/// Returns the packet that a block of RED stands for.
+/// Returns the packet that a block of RED carries.
 fn of_block<'a>(
     settings: &FecPortSettings,
     header: PacketHeader<'a>,

@@ -40,9 +40,7 @@ pub enum Ending {
     Timeout,
     /// The caller ended it.
     ByCall,
-    /// Its sender continues in another format under the same SSRC, or its format is gone ([`Session::set_formats`]).
-    ///
-    /// [`Session::set_formats`]: crate::session::sessions::Session::set_formats
+    /// Its sender continues in another format under the same SSRC, or its format is gone (`Session::set_formats`).
     Changed,
 }
 
@@ -59,9 +57,7 @@ pub enum Stage {
     Draining(Ending),
 }
 
-/// A stream of a session, as [`Session::stream_at`] reports it.
-///
-/// [`Session::stream_at`]: crate::session::sessions::Session::stream_at
+/// A stream of a session, as `Session::stream_at` reports it.
 #[derive(Clone, Copy, Debug)]
 pub struct StreamInfo {
     pub ssrc: u32,
