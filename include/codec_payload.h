@@ -1603,7 +1603,7 @@ CPAY_CHECKED cpay_status cpay_fec_receiver_next(cpay_fec_receiver *receiver, uin
 /** Drops all packets. Call it if the sender restarts. */
 CPAY_CHECKED cpay_status cpay_fec_receiver_restart(cpay_fec_receiver *receiver);
 
-/** A packet that is lent: in memory of a port or of a sender, or, in a call of cpay_fec_port_receive, your datagram. */
+/** A packet that is lent, in memory of a port or of a sender. */
 typedef struct {
     const uint8_t *at; /**< where its bytes begin */
     size_t bytes;      /**< how many they are */
@@ -1636,35 +1636,34 @@ typedef struct {
 void cpay_fec_port_settings_init(cpay_fec_port_settings *settings);
 
 /** Creates a port in an empty handle: error correction for all streams in front of a session, a forwarder or receivers. A stream
- * is an SSRC, and begins with its first packet of RED or of ULPFEC; it takes 12 kB then. If there are `max_streams`, it takes
- * the place of the first one, in the order in which they began, that has fewer than 16 packets of media and fewer than 16 of
- * FEC, or that had no packet among the latest 16384 of all streams. If there is none, its packets pass, and none of them is
- * rebuilt.
+ * is an SSRC, and begins with its first packet of RED or of ULPFEC. Each takes 12 kB then. If all `max_streams` places are
+ * taken, a new stream replaces the first one, in the order in which they began, that may go. A stream may go if it has fewer
+ * than 16 packets of media and of FEC each, or had no packet among the latest 16384 of all streams. If no stream may go, the
+ * packets of the new one pass, and are not rebuilt.
  *
- * `retransmissions`: of each media with retransmissions; if a payload type of media is there twice, the first one counts.
+ * `retransmissions` lists each media with retransmissions; if a payload type of media is listed twice, the first entry counts.
  * CPAY_FEC_STREAMS, CPAY_FEC_PAYLOAD_TYPE, CPAY_FEC_TWO_MEANINGS: the first fault, `max_streams` before payload types. List the
  * payload type of ULPFEC in `no_media` of the session. [m] */
 CPAY_CHECKED cpay_status cpay_fec_port_new(cpay_fec_port *port, const cpay_fec_port_settings *settings,
                                            const cpay_retransmission_type *retransmissions, size_t retransmissions_len);
 
-/** Takes a datagram as it came, and lends the packet that passes in its place: *passed is that packet, until the next call of
- * cpay_fec_port_receive or cpay_fec_port_free with this port. If the datagram passes as it is, *passed is unchanged: so set it
- * to the datagram before, and pass *passed to the session after. Then call cpay_fec_port_next.
+/** Takes a datagram as it came. If another packet passes in its place, *passed becomes that packet. It is lent until the next
+ * call of cpay_fec_port_receive or cpay_fec_port_free with this port. If the datagram passes as it is, *passed is unchanged. So
+ * set *passed to the datagram before the call, and pass *passed to the session after it. Then call cpay_fec_port_next.
  *
- * - RED with one block of media becomes the packet as it was before RED (RFC 2198), and its retransmission (RFC 4588) one of
- *   that.
- * - FEC, in RED or not, becomes a byte of padding under its number.
- * - All else passes as it is: RTCP, packets without RED, RED with several blocks, bytes that are no packet.
+ * - RED with one block of media becomes the packet as it was before RED (RFC 2198).
+ * - A retransmission (RFC 4588) of such a packet becomes a retransmission of the packet before RED.
+ * - FEC, in RED or without it, becomes a byte of padding under its number.
+ * - All else passes as it is: RTCP, packets without RED, RED with several blocks, other bytes.
  *
- * CPAY_OUT_OF_MEMORY: nothing changed, but the packet that was lent is lent no longer. [m] */
+ * CPAY_OUT_OF_MEMORY: nothing changed, except that the packet that was lent is lent no longer. [m] */
 CPAY_CHECKED cpay_status cpay_fec_port_receive(cpay_fec_port *port, const uint8_t *datagram, size_t datagram_len,
                                                cpay_lent_packet *passed);
 
-/** Lends a packet that was rebuilt, until the next call of cpay_fec_port_next with CPAY_OK, or cpay_fec_port_free, with this
- * port: a whole RTP packet as it was before RED, with padding in the place of the extensions of the settings. Pass it to the
- * session. Call it after each datagram until CPAY_NONE: no packet can be rebuilt now. It tries at most two packets of FEC for
- * each datagram, of the stream that had the latest packet, and rebuilds at most one packet. CPAY_OUT_OF_MEMORY: no packet is
- * lost; call it again. [m] */
+/** Lends a packet that was rebuilt: a whole RTP packet as it was before RED, with padding in the place of the extensions of the
+ * settings. Pass it to the session. It is lent until cpay_fec_port_next returns another packet, or cpay_fec_port_free. Call
+ * this after each datagram, until CPAY_NONE: no packet can be rebuilt now. A datagram tries at most two packets of FEC of its
+ * stream, and rebuilds at most one packet. CPAY_OUT_OF_MEMORY: no packet is lost; call it again. [m] */
 CPAY_CHECKED cpay_status cpay_fec_port_next(cpay_fec_port *port, cpay_lent_packet *packet);
 
 /** Drops all packets of the stream with this SSRC. Call it if its sender restarts with other numbers. */
@@ -1680,14 +1679,14 @@ typedef struct {
     uint64_t rebuilt; /**< packets that were rebuilt */
 } cpay_fec_counts_info;
 
-/** Writes how many packets all streams had, those that ended among them. */
+/** Writes how many packets all streams had, also streams that ended. */
 CPAY_CHECKED cpay_status cpay_fec_port_counts(cpay_fec_port *port, cpay_fec_counts_info *counts);
 
 /** Writes how many packets the stream with this SSRC had since it began. CPAY_NONE: there is none. */
 CPAY_CHECKED cpay_status cpay_fec_port_stream_counts(cpay_fec_port *port, uint32_t ssrc, cpay_fec_counts_info *counts);
 
-/** Settings of a sender of FEC. `protection` and `keyframe_protection` are shares of FEC in 256ths: 0 makes none, and each other
- * value makes at least one packet of FEC for each group of up to 48 packets. Each id is that of a header extension that you
+/** Settings of a sender of FEC. `protection` and `keyframe_protection` are shares of FEC in 256ths. 0 makes none; each other
+ * value makes at least one packet of FEC for each group of up to 48 packets. Each id is the id of a header extension that you
  * fill in after the packet was passed; 0: there is none. FEC protects zeros there. Begin with { 0 }. */
 typedef struct {
     uint32_t ssrc;               /**< SSRC of the stream */
@@ -1702,22 +1701,22 @@ typedef struct {
     uint8_t video_timing;        /**< id of video-timing */
 } cpay_fec_sender_settings;
 
-/** Creates a sender in an empty handle, which stands between a cpay_sender or a cpay_forwarder and the socket. It puts packets
- * of one stream in RED (RFC 2198), and writes FEC (RFC 5109) behind each frame. Media and FEC share the sequence numbers of the
+/** Creates a sender in an empty handle, for use between a cpay_sender or a cpay_forwarder and the socket. It puts packets of one
+ * stream in RED (RFC 2198), and writes FEC (RFC 5109) behind each frame. Media and FEC share the sequence numbers of the
  * stream: a packet has its own number, plus a constant, plus one for each packet of FEC below it. Keep what it writes in a
- * cpay_history. CPAY_FEC_PAYLOAD_TYPE, CPAY_FEC_TWO_MEANINGS: the first fault, of `red_type` before that of `fec_type`. [m] */
+ * cpay_history. CPAY_FEC_PAYLOAD_TYPE, CPAY_FEC_TWO_MEANINGS: the first fault, `red_type` before `fec_type`. [m] */
 CPAY_CHECKED cpay_status cpay_fec_sender_new(cpay_fec_sender *sender, const cpay_fec_sender_settings *settings);
 
-/** Puts a packet of the media in RED with one block, under its number of the stream, and lends it until the next call of
- * cpay_fec_sender_push or cpay_fec_sender_free with this sender. It keeps its header extension and CSRCs, and loses its
- * padding; a packet without a payload, such as padding, keeps all but its number, and is not protected. *ends is whether the
- * packet ends its frame: it has the marker and the highest number so far. Send the packet, and then call
- * cpay_fec_sender_finish_frame if *ends.
+/** Puts a packet of the media in RED with one block, under its number of the stream. *packet is the packet in RED, which is lent
+ * until the next call of cpay_fec_sender_push or cpay_fec_sender_free with this sender. It has the header extension and the
+ * CSRCs of the packet, and no padding. A packet without a payload, such as padding, gets its number, is not in RED, and is not
+ * protected. *ends is whether the packet ends its frame: it has the marker and the highest number so far. Send the packet. If
+ * *ends, then call cpay_fec_sender_finish_frame.
  *
- * It holds a copy of the packet for the FEC of its frame: 512 at most, and none if both shares are 0. A packet after the FEC of
- * its frame gets the number that was kept free for it, and is not protected. CPAY_RTP_HEADER_TOO_SHORT to
- * CPAY_RTP_PADDING_TOO_LONG: no RTP packet. CPAY_FEC_PACKET_TOO_LARGE to CPAY_FEC_TOO_OLD: the first fault of the packet. If
- * the call fails, it uses no number, and the packet that was lent is lent no longer. [m] */
+ * The sender holds a copy of the packet for the FEC of its frame: 512 at most, and none if both shares are 0. A packet after
+ * the FEC of its frame gets the number that was kept free for it, and is not protected. CPAY_RTP_HEADER_TOO_SHORT to
+ * CPAY_RTP_PADDING_TOO_LONG: not an RTP packet. CPAY_FEC_PACKET_TOO_LARGE to CPAY_FEC_TOO_OLD: the first fault of the packet.
+ * If the call fails, it uses no number, and the packet that was lent is lent no longer. [m] */
 CPAY_CHECKED cpay_status cpay_fec_sender_push(cpay_fec_sender *sender, const uint8_t *datagram, size_t datagram_len,
                                               cpay_lent_packet *packet, bool *ends);
 

@@ -1,7 +1,7 @@
 //! Settings of a port with FEC, from C.
 
 ghost use Rattle.std.specs.Prelude.{◌≡◌, IfErr, IfOk, map};
-ghost use Rattle.codec_payload_c_fec.specs.PortSettings.{AreSettings, IsNewPort, IsRefused, fault_status, late_given, pair_given, port_defaults};
+ghost use Rattle.codec_payload_c_fec.specs.PortSettings.{AreSettings, IsNewPort, IsRefused, fault_status, given_if, late_given, pair_given, port_defaults};
 
 use crate::status;
 use codec_payload_c_path::fec_receiver::id_of;
