@@ -64,7 +64,7 @@ recorder = tools/rtp_record
 vectors = crates/payload_vectors
 shipped = Makefile include packaging $(documents) $(pages) $(pictures) $(wildcard c/src/*.c c/src/*.h c/generated/*.S) \
     $(wildcard CMakeLists.txt examples/*.c c/tests/*.c c/tests/*.cpp c/tests/*.h c/tests/*.sh c/tests/*.txt c/tests/sdp/*) \
-    $(vectors)/stdin $(vectors)/stdout \
+    $(vectors)/stdin $(vectors)/stdout rust/tests/fec_ports/chromium.bin \
     $(addprefix $(recorder)/,Makefile README.md rtp_record.1 completion.bash) $(wildcard $(recorder)/*.c $(recorder)/*.h)
 # Without libpcap and libavformat the packages are made without the recorder.
 profiles = $(shell pkg-config --exists libpcap libavformat libavcodec libavutil || echo pkg.codec-payload.notools)
@@ -133,7 +133,7 @@ endif
 
 # The tests and three examples: each is a program over the archive. `strict=-Werror` is how the repository builds them.
 programs = $(addprefix $(tests)/,first $(if $(windows),shared,loopback port) \
-    checks datagrams lending session history forward waiting congestion paths reports rtcp packets values bindings vectors frames oom forward_oom beyond descriptions)
+    checks datagrams lending session history forward waiting congestion paths reports fec rtcp packets values bindings vectors frames oom forward_oom beyond descriptions)
 
 ifneq ($(windows),)
 # A program over the DLL, which stands beside it; and the division, which is not a call of the library.

@@ -22,7 +22,8 @@ import os
 import re
 import sys
 
-CRATES = ["codec_payload_c", "codec_payload_c_packets", "codec_payload_c_path", "codec_payload_c_receiving", "codec_payload_handle"]
+CRATES = ["codec_payload_c", "codec_payload_c_packets", "codec_payload_c_path", "codec_payload_c_fec", "codec_payload_c_receiving",
+          "codec_payload_handle"]
 ROOT = os.path.dirname(os.path.dirname(os.path.realpath(__file__)))
 NUMBERS = {
     **{f"u{bits}": f"uint{bits}_t" for bits in (8, 16, 32, 64)},
@@ -40,7 +41,7 @@ KINDS = [
 # The same for the handles of codec_payload_c_path, which have another call to free them.
 # Structs of the library that no call takes yet.
 UNUSED = {"cpay_rate_offer_settings"}
-PATH_KINDS = ["cpay_path", "cpay_resend_limit", "cpay_packet_store", "cpay_fec_receiver"]
+PATH_KINDS = ["cpay_path", "cpay_resend_limit", "cpay_packet_store", "cpay_fec_receiver", "cpay_fec_port", "cpay_fec_sender"]
 ALL_KINDS = [*KINDS[:-1], *PATH_KINDS, KINDS[-1]]
 # Types of handles that are the same in C.
 SAME = {"PathHandle": "Handle"}

@@ -25,19 +25,20 @@
  *
  * STATUSES. A call returns a status; a few return a bool or a number. 0 is success, 1 to 17 are errors of payloads and of
  * memory, 32 to 41 are the library's own, 42 to 65 say why a datagram is not accepted, 66 to 73 why feedback is not read, and
- * 74 and 75 why a datagram gets no number; 76 is a unit above the bound, 77 a full queue, 78 to 81
- * say why feedback of RFC 8888 is not read, and 82 to 86 why a packet of FEC is not. The enum below names them. If a call fails,
- * its output buffer and its other output arguments are unchanged. Exception: with CPAY_TOO_SMALL it writes the required size, and
- * the other outputs except the bytes, unless its comment says otherwise.
+ * 74 and 75 why a datagram gets no number; 76 is a unit above the bound, 77 a full queue, 78 to 81 say why feedback of RFC 8888
+ * is not read, 82 to 86 why a packet of FEC is not, 87 to 89 which settings of FEC are out of range, and 90 to 93 why a packet
+ * is not sent with FEC. The enum below names them. If a call fails, its output buffer and its other output arguments are
+ * unchanged. Exception: with CPAY_TOO_SMALL it writes the required size, and the other outputs except the bytes, unless its
+ * comment says otherwise.
  *
  * HANDLES. A packetizer, a depacketizer, a buffer, a RED sender, a sender, a history, a forwarder, a receiver, an adaptive
- * wait, a counter of freezes, a transport reporter, the sent packets of a transport, a path, a resend limit, a packet store and a
- * session each live in a handle: a struct of that type in your own memory. Initialise it with CPAY_INIT, create the object by the
- * call named *_new, and end with the call named *_free, which leaves the handle empty. You may free an empty handle. Other calls on
- * an empty handle return CPAY_EMPTY; calls on a handle of another type, as after a cast, return CPAY_OTHER_KIND. Exception: a path,
- * a resend limit and a packet store recognise each other alone; never cast one to a type other than these three, or a handle of
- * another type to one of them.
- * Never write into a handle. Never copy a handle in use: the library cannot detect that another copy was freed. You may move it in
+ * wait, a counter of freezes, a transport reporter, the sent packets of a transport, a path, a resend limit, a packet store, a
+ * receiver, a port and a sender of FEC, and a session each live in a handle: a struct of that type in your own memory.
+ * Initialise it with CPAY_INIT, create the object by the call named *_new, and end with the call named *_free, which leaves the
+ * handle empty. You may free an empty handle. Other calls on an empty handle return CPAY_EMPTY; calls on a handle of another
+ * type, as after a cast, return CPAY_OTHER_KIND. Exception: a path, a resend limit, a packet store and the three of FEC
+ * recognise each other alone; never cast one to a type other than these six, or a handle of another type to one of them. Never
+ * write into a handle. Never copy a handle in use: the library cannot detect that another copy was freed. You may move it in
  * memory if you forget the old place.
  *
  * MEMORY. The library allocates with the program's malloc and realloc and releases with free, only in calls marked [m]. These
@@ -50,8 +51,9 @@
  * unit waits for the next call of the same name. So a first call may pass a length of 0. (cpay_history_resend and the
  * calls of a forwarder spend nothing, and keep nothing waiting.)
  *
- * LENT BYTES. Three calls need no output buffer and copy nothing: cpay_session_poll, cpay_receiver_lend and cpay_depacketizer_unit
- * return a pointer to bytes in the library's memory. Read them until the call that their comments name, and never write them.
+ * LENT BYTES. Six calls need no output buffer and copy nothing: cpay_session_poll, cpay_receiver_lend, cpay_depacketizer_unit,
+ * cpay_fec_port_receive, cpay_fec_port_next and cpay_fec_sender_push return a pointer to bytes in the library's memory. Read them
+ * until the call that their comments name, and never write them.
  *
  * POINTERS. NULL is allowed with a length of 0; with another length the call returns CPAY_INVALID (false, if it returns a bool).
  * All other pointers must be valid, except the argument of *_free. An argument that a call writes must not overlap any other
@@ -204,7 +206,15 @@ typedef enum {
     CPAY_FEC_EXTENDED = 83,         /**< its extension flag is set, which the RFC reserves */
     CPAY_FEC_LEVEL_TOO_SHORT = 84,  /**< it ends inside the header of level 0 */
     CPAY_FEC_EMPTY_MASK = 85,       /**< it protects no packet */
-    CPAY_FEC_PAYLOAD_TOO_SHORT = 86 /**< it ends inside the payload of level 0 */
+    CPAY_FEC_PAYLOAD_TOO_SHORT = 86, /**< it ends inside the payload of level 0 */
+    CPAY_FEC_STREAMS = 87, /**< 87 to 89 say which settings of a port with FEC or of a sender of FEC are out of range: the number of
+                                streams is not 1 to 256 */
+    CPAY_FEC_PAYLOAD_TYPE = 88, /**< a payload type */
+    CPAY_FEC_TWO_MEANINGS = 89, /**< a payload type has two meanings */
+    CPAY_FEC_PACKET_TOO_LARGE = 90, /**< 90 to 93 say why a sender of FEC does not take a packet: it has more than 65547 bytes */
+    CPAY_FEC_OTHER_STREAM = 91,     /**< it has another SSRC */
+    CPAY_FEC_PACKET_TYPE = 92,      /**< its payload type is that of RED or of ULPFEC */
+    CPAY_FEC_TOO_OLD = 93           /**< FEC was made 64 times since */
 } cpay_status;
 
 /** Codecs. */
@@ -308,6 +318,14 @@ typedef struct {
 
 typedef struct {
     cpay_handle handle;
+} cpay_fec_port;
+
+typedef struct {
+    cpay_handle handle;
+} cpay_fec_sender;
+
+typedef struct {
+    cpay_handle handle;
 } cpay_session;
 
 #define CPAY_INIT { { false, { NULL } } }
@@ -329,6 +347,8 @@ void cpay_path_free(cpay_path *path);
 void cpay_resend_limit_free(cpay_resend_limit *limit);
 void cpay_packet_store_free(cpay_packet_store *store);
 void cpay_fec_receiver_free(cpay_fec_receiver *receiver);
+void cpay_fec_port_free(cpay_fec_port *port);
+void cpay_fec_sender_free(cpay_fec_sender *sender);
 void cpay_session_free(cpay_session *session);
 
 /** A codec with its settings. Settings of other codecs are ignored, with two exceptions: `rate` is always checked, and
@@ -1525,7 +1545,7 @@ CPAY_CHECKED cpay_status cpay_ccfb_write(const cpay_ccfb_info *info, const cpay_
 /** Returns the offset of a packet that arrived at `time`, for a report at `now`, both in microseconds of one clock. */
 uint16_t cpay_ccfb_offset(uint64_t now, uint64_t time);
 
-/* ---- Forward error correction: packets that are rebuilt (ULPFEC, RFC 5109) ---- */
+/* ---- Forward error correction (ULPFEC, RFC 5109, in RED, RFC 2198) ---- */
 
 /** What a packet of FEC protects. */
 typedef struct {
@@ -1582,6 +1602,136 @@ CPAY_CHECKED cpay_status cpay_fec_receiver_next(cpay_fec_receiver *receiver, uin
 
 /** Drops all packets. Call it if the sender restarts. */
 CPAY_CHECKED cpay_status cpay_fec_receiver_restart(cpay_fec_receiver *receiver);
+
+/** A packet that is lent, in memory of a port or of a sender. */
+typedef struct {
+    const uint8_t *at; /**< where its bytes begin */
+    size_t bytes;      /**< how many they are */
+} cpay_lent_packet;
+
+/** A payload type of media and that of its retransmissions (RFC 4588), as `a=fmtp:97 apt=96` names them. */
+typedef struct {
+    uint8_t media;          /**< payload type of the media, as blocks of RED have it */
+    uint8_t retransmission; /**< payload type of its retransmissions without RED */
+} cpay_retransmission_type;
+
+/** Settings of a port with FEC. Payload types are 0 to 63 or 96 to 127 (RFC 5761, section 4), and each has one meaning. Each id
+ * is that of a header extension that senders fill in after they made the FEC; 0: not agreed on. A wrong id rebuilds wrong
+ * packets. cpay_sdp_fec_port reads all of them from a session description. */
+typedef struct {
+    size_t bytes;               /**< how much memory packets of media of a stream may take; a packet above the 512th part of it is
+                                     not kept. Packets of FEC take at most an eighth of it more. 768000 by default */
+    size_t max_streams;         /**< the largest number of streams, 1 to 256; 64 by default */
+    uint8_t red_type;           /**< payload type of RED */
+    uint8_t fec_type;           /**< payload type of ULPFEC, in RED or without it */
+    uint8_t red_retransmission; /**< with has_red_retransmission: payload type of retransmissions whose `apt` is RED */
+    bool has_red_retransmission; /**< packets in RED are retransmitted too */
+    uint8_t transport_number;   /**< id of the transport-wide sequence number */
+    uint8_t abs_send_time;      /**< id of abs-send-time */
+    uint8_t transmission_offset; /**< id of toffset */
+    uint8_t video_timing;       /**< id of video-timing */
+} cpay_fec_port_settings;
+
+/** Writes the defaults. Set the payload types, and the ids of the extensions that senders fill in late. */
+void cpay_fec_port_settings_init(cpay_fec_port_settings *settings);
+
+/** Creates a port in an empty handle: error correction for all streams in front of a session, a forwarder or receivers. A stream
+ * is an SSRC, and begins with its first packet of RED or of ULPFEC. Each takes 12 kB then. If all `max_streams` places are
+ * taken, a new stream replaces the first one, in the order in which they began, that may go. A stream may go if it has fewer
+ * than 16 packets of media and of FEC each, or had no packet among the latest 16384 of all streams. If no stream may go, the
+ * packets of the new one pass, and are not rebuilt.
+ *
+ * `retransmissions` lists each media with retransmissions; if a payload type of media is listed twice, the first entry counts.
+ * CPAY_FEC_STREAMS, CPAY_FEC_PAYLOAD_TYPE, CPAY_FEC_TWO_MEANINGS: the first fault, `max_streams` before payload types. List the
+ * payload type of ULPFEC in `no_media` of the session. [m] */
+CPAY_CHECKED cpay_status cpay_fec_port_new(cpay_fec_port *port, const cpay_fec_port_settings *settings,
+                                           const cpay_retransmission_type *retransmissions, size_t retransmissions_len);
+
+/** Takes a datagram as it came. If another packet passes in its place, *passed becomes that packet. It is lent until the next
+ * call of cpay_fec_port_receive or cpay_fec_port_free with this port. If the datagram passes as it is, *passed is unchanged. So
+ * set *passed to the datagram before the call, and pass *passed to the session after it. Then call cpay_fec_port_next.
+ *
+ * - RED with one block of media becomes the packet as it was before RED (RFC 2198).
+ * - A retransmission (RFC 4588) of such a packet becomes a retransmission of the packet before RED.
+ * - FEC, in RED or without it, becomes a byte of padding under its number.
+ * - All else passes as it is: RTCP, packets without RED, RED with several blocks, other bytes.
+ *
+ * CPAY_OUT_OF_MEMORY: nothing changed, except that the packet that was lent is lent no longer. [m] */
+CPAY_CHECKED cpay_status cpay_fec_port_receive(cpay_fec_port *port, const uint8_t *datagram, size_t datagram_len,
+                                               cpay_lent_packet *passed);
+
+/** Lends a packet that was rebuilt: a whole RTP packet as it was before RED, with padding in the place of the extensions of the
+ * settings. Pass it to the session. It is lent until cpay_fec_port_next returns another packet, or cpay_fec_port_free. Call
+ * this after each datagram, until CPAY_NONE: no packet can be rebuilt now. A datagram tries at most two packets of FEC of its
+ * stream, and rebuilds at most one packet. CPAY_OUT_OF_MEMORY: no packet is lost; call it again. [m] */
+CPAY_CHECKED cpay_status cpay_fec_port_next(cpay_fec_port *port, cpay_lent_packet *packet);
+
+/** Drops all packets of the stream with this SSRC. Call it if its sender restarts with other numbers. */
+CPAY_CHECKED cpay_status cpay_fec_port_restart(cpay_fec_port *port, uint32_t ssrc);
+
+/** Ends the stream with this SSRC, and frees its memory. It begins again with a packet of RED or of ULPFEC. */
+CPAY_CHECKED cpay_status cpay_fec_port_end(cpay_fec_port *port, uint32_t ssrc);
+
+/** How many packets there were, modulo 2^64. */
+typedef struct {
+    uint64_t media;   /**< packets of media that came, padding among them */
+    uint64_t fec;     /**< packets of FEC that came */
+    uint64_t rebuilt; /**< packets that were rebuilt */
+} cpay_fec_counts_info;
+
+/** Writes how many packets all streams had, also streams that ended. */
+CPAY_CHECKED cpay_status cpay_fec_port_counts(cpay_fec_port *port, cpay_fec_counts_info *counts);
+
+/** Writes how many packets the stream with this SSRC had since it began. CPAY_NONE: there is none. */
+CPAY_CHECKED cpay_status cpay_fec_port_stream_counts(cpay_fec_port *port, uint32_t ssrc, cpay_fec_counts_info *counts);
+
+/** Settings of a sender of FEC. `protection` and `keyframe_protection` are shares of FEC in 256ths. 0 makes none; each other
+ * value makes at least one packet of FEC for each group of up to 48 packets. Each id is the id of a header extension that you
+ * fill in after the packet was passed; 0: there is none. FEC protects zeros there. Begin with { 0 }. */
+typedef struct {
+    uint32_t ssrc;               /**< SSRC of the stream */
+    uint16_t first_number;       /**< sequence number of the first packet */
+    uint8_t red_type;            /**< payload type of RED, 0 to 127 */
+    uint8_t fec_type;            /**< payload type of ULPFEC in RED, 0 to 127, another one */
+    uint8_t protection;          /**< share for frames that are no keyframes */
+    uint8_t keyframe_protection; /**< share for keyframes */
+    uint8_t transport_number;    /**< id of the transport-wide sequence number */
+    uint8_t abs_send_time;       /**< id of abs-send-time */
+    uint8_t transmission_offset; /**< id of toffset */
+    uint8_t video_timing;        /**< id of video-timing */
+} cpay_fec_sender_settings;
+
+/** Creates a sender in an empty handle, for use between a cpay_sender or a cpay_forwarder and the socket. It puts packets of one
+ * stream in RED (RFC 2198), and writes FEC (RFC 5109) behind each frame. Media and FEC share the sequence numbers of the
+ * stream: a packet has its own number, plus a constant, plus one for each packet of FEC below it. Keep what it writes in a
+ * cpay_history. CPAY_FEC_PAYLOAD_TYPE, CPAY_FEC_TWO_MEANINGS: the first fault, `red_type` before `fec_type`. [m] */
+CPAY_CHECKED cpay_status cpay_fec_sender_new(cpay_fec_sender *sender, const cpay_fec_sender_settings *settings);
+
+/** Puts a packet of the media in RED with one block, under its number of the stream. *packet is the packet in RED, which is lent
+ * until the next call of cpay_fec_sender_push or cpay_fec_sender_free with this sender. It has the header extension and the
+ * CSRCs of the packet, and no padding. A packet without a payload, such as padding, gets its number, is not in RED, and is not
+ * protected. *ends is whether the packet ends its frame: it has the marker and the highest number so far. Send the packet. If
+ * *ends, then call cpay_fec_sender_finish_frame.
+ *
+ * The sender holds a copy of the packet for the FEC of its frame: 512 at most, and none if both shares are 0. A packet after
+ * the FEC of its frame gets the number that was kept free for it, and is not protected. CPAY_RTP_HEADER_TOO_SHORT to
+ * CPAY_RTP_PADDING_TOO_LONG: not an RTP packet. CPAY_FEC_PACKET_TOO_LARGE to CPAY_FEC_TOO_OLD: the first fault of the packet.
+ * If the call fails, it uses no number, and the packet that was lent is lent no longer. [m] */
+CPAY_CHECKED cpay_status cpay_fec_sender_push(cpay_fec_sender *sender, const uint8_t *datagram, size_t datagram_len,
+                                              cpay_lent_packet *packet, bool *ends);
+
+/** Makes the FEC for the packets since the last call, under the numbers after the highest one, and writes to *count how many
+ * packets of FEC it is. They take the place of the FEC before. CPAY_OUT_OF_MEMORY: no number is used, and there is no FEC; call
+ * it again. [m] */
+CPAY_CHECKED cpay_status cpay_fec_sender_finish_frame(cpay_fec_sender *sender, bool keyframe, size_t *count);
+
+/** Writes packet `place` of the latest FEC, from 0: a whole RTP packet of RED. Send them in order, behind the frame. CPAY_NONE:
+ * there are no more. CPAY_TOO_SMALL: *size is written. Does not allocate. */
+CPAY_CHECKED cpay_status cpay_fec_sender_packet(cpay_fec_sender *sender, size_t place, uint8_t *bytes, size_t bytes_len,
+                                                size_t *size);
+
+/** Changes the shares of protection, from the next FEC on. */
+CPAY_CHECKED cpay_status cpay_fec_sender_protect(cpay_fec_sender *sender, uint8_t protection, uint8_t keyframe_protection);
 
 /* ---- A session: all datagrams of a port in, the events of its streams out ---- */
 
@@ -2305,6 +2455,13 @@ static inline const char *cpay_status_text(cpay_status status) {
     case CPAY_FEC_LEVEL_TOO_SHORT: return "the FEC packet ends inside the header of level 0";
     case CPAY_FEC_EMPTY_MASK: return "the FEC packet protects no packet";
     case CPAY_FEC_PAYLOAD_TOO_SHORT: return "the FEC packet ends inside the payload of level 0";
+    case CPAY_FEC_STREAMS: return "the streams of the port with FEC are not 1 to 256";
+    case CPAY_FEC_PAYLOAD_TYPE: return "a payload type of the settings is out of range";
+    case CPAY_FEC_TWO_MEANINGS: return "a payload type of the settings has two meanings";
+    case CPAY_FEC_PACKET_TOO_LARGE: return "the packet exceeds 65547 bytes";
+    case CPAY_FEC_OTHER_STREAM: return "the packet is of another stream";
+    case CPAY_FEC_PACKET_TYPE: return "the packet has the payload type of RED or of ULPFEC";
+    case CPAY_FEC_TOO_OLD: return "the packet comes too late";
     default: return "unknown status";
     }
 }

@@ -495,6 +495,57 @@ public:
     [[nodiscard]] cpay_status restart() noexcept { return cpay_fec_receiver_restart(get()); }
 };
 
+/** Rebuilds lost packets of all streams of a port: see cpay_fec_port_new. */
+class fec_port : public handle<cpay_fec_port, cpay_fec_port_free> {
+public:
+    [[nodiscard]] cpay_status make(const cpay_fec_port_settings &settings,
+                                   view<const cpay_retransmission_type> retransmissions = {}) noexcept {
+        return cpay_fec_port_new(get(), &settings, retransmissions.data(), retransmissions.size());
+    }
+    /** `passed` is what to pass to the session: the datagram, or the packet that is lent in its place. */
+    [[nodiscard]] cpay_status receive(bytes datagram, bytes &passed) noexcept {
+        cpay_lent_packet packet = {datagram.data(), datagram.size()};
+        const cpay_status status = cpay_fec_port_receive(get(), datagram.data(), datagram.size(), &packet);
+        if (status == CPAY_OK) passed = bytes(packet.at, packet.bytes);
+        return status;
+    }
+    [[nodiscard]] cpay_status next(bytes &packet) noexcept {
+        cpay_lent_packet rebuilt = {};
+        const cpay_status status = cpay_fec_port_next(get(), &rebuilt);
+        if (status == CPAY_OK) packet = bytes(rebuilt.at, rebuilt.bytes);
+        return status;
+    }
+    [[nodiscard]] cpay_status restart(std::uint32_t ssrc) noexcept { return cpay_fec_port_restart(get(), ssrc); }
+    [[nodiscard]] cpay_status end(std::uint32_t ssrc) noexcept { return cpay_fec_port_end(get(), ssrc); }
+    [[nodiscard]] cpay_status counts(cpay_fec_counts_info &counts) noexcept { return cpay_fec_port_counts(get(), &counts); }
+    [[nodiscard]] cpay_status counts(std::uint32_t ssrc, cpay_fec_counts_info &counts) noexcept {
+        return cpay_fec_port_stream_counts(get(), ssrc, &counts);
+    }
+};
+
+/** Puts packets in RED, and writes FEC behind each frame: see cpay_fec_sender_new. */
+class fec_sender : public handle<cpay_fec_sender, cpay_fec_sender_free> {
+public:
+    [[nodiscard]] cpay_status make(const cpay_fec_sender_settings &settings) noexcept {
+        return cpay_fec_sender_new(get(), &settings);
+    }
+    [[nodiscard]] cpay_status push(bytes datagram, bytes &packet, bool &ends) noexcept {
+        cpay_lent_packet lent = {};
+        const cpay_status status = cpay_fec_sender_push(get(), datagram.data(), datagram.size(), &lent, &ends);
+        if (status == CPAY_OK) packet = bytes(lent.at, lent.bytes);
+        return status;
+    }
+    [[nodiscard]] cpay_status finish_frame(bool keyframe, std::size_t &count) noexcept {
+        return cpay_fec_sender_finish_frame(get(), keyframe, &count);
+    }
+    [[nodiscard]] cpay_status packet(std::size_t place, room to, std::size_t &size) noexcept {
+        return cpay_fec_sender_packet(get(), place, to.data(), to.size(), &size);
+    }
+    [[nodiscard]] cpay_status protect(std::uint8_t protection, std::uint8_t keyframe_protection) noexcept {
+        return cpay_fec_sender_protect(get(), protection, keyframe_protection);
+    }
+};
+
 /** The first setting that no session can meet: see cpay_session_settings_check. */
 [[nodiscard]] inline cpay_status check_settings(const cpay_session_settings &settings, view<const cpay_session_format> formats,
                                                 bytes no_media, cpay_settings_fault &fault) noexcept {

@@ -157,6 +157,19 @@ CPAY_CHECKED cpay_status cpay_fec_receiver_create(cpay_fec_receiver **receiver, 
 /** Frees a receiver of FEC and the memory of its handle. */
 void cpay_fec_receiver_destroy(cpay_fec_receiver *receiver);
 
+/** Creates a port with FEC as cpay_fec_port_new does. [m] */
+CPAY_CHECKED cpay_status cpay_fec_port_create(cpay_fec_port **port, const cpay_fec_port_settings *settings,
+                                              const cpay_retransmission_type *retransmissions, size_t retransmissions_len);
+
+/** Frees a port with FEC and the memory of its handle. */
+void cpay_fec_port_destroy(cpay_fec_port *port);
+
+/** Creates a sender of FEC as cpay_fec_sender_new does. [m] */
+CPAY_CHECKED cpay_status cpay_fec_sender_create(cpay_fec_sender **sender, const cpay_fec_sender_settings *settings);
+
+/** Frees a sender of FEC and the memory of its handle. */
+void cpay_fec_sender_destroy(cpay_fec_sender *sender);
+
 /** Creates a session as cpay_session_new does. [m] */
 CPAY_CHECKED cpay_status cpay_session_create(cpay_session **session, const cpay_session_settings *settings,
                                              const cpay_session_format *formats, size_t formats_len, const uint8_t *no_media,

@@ -2,8 +2,9 @@
  * codec_payload_sdp: from a session description (SDP, RFC 8866) to the settings of receivers and of sessions, for C and C++.
  *
  * cpay_sdp_read reads the `m=` sections of a description: payload types and what each is for, ids of header extensions, SSRCs,
- * feedback, names of sections and layers, direction, ICE, DTLS. cpay_sdp_receiver turns a section into settings of a receiver, and
- * cpay_sdp_session turns all sections of a port into settings of a session. None of them allocates. Any bytes may be given. This
+ * feedback, names of sections and layers, direction, ICE, DTLS. cpay_sdp_receiver turns a section into settings of a receiver,
+ * cpay_sdp_session all sections of a port into settings of a session, and cpay_sdp_fec_port into those of a port with FEC in
+ * front of it. None of them allocates. Any bytes may be given. This
  * part is ordinary C, tested with sanitizers and by fuzzing; unlike the rest of the library it is not proved. codec_payload.h does
  * not include this file. The rules of codec_payload.h for pointers and for failing calls apply. */
 #ifndef CODEC_PAYLOAD_SDP_H
@@ -282,8 +283,8 @@ typedef struct {
  *   the first format of media of its section. Retransmissions have the first format of RTX whose `apt` is the payload type, and
  *   those of RED the first one whose `apt` is RED's. `nack` and `pli` are as in `a=rtcp-fb`. If two sections have a payload type,
  *   packets or keyframes of it are requested only if both agree on that. If RED that names no payload type would be over two
- *   formats, it is over the first. Video has no RED if the section lists `ulpfec` or other error correction: refuse `red` and
- *   `ulpfec` of video, since sessions do not use FEC. RED of audio stays.
+ *   formats, it is over the first. Video has no RED if the section lists `ulpfec` or other error correction: put a cpay_fec_port
+ *   in front of the session (cpay_sdp_fec_port), or refuse `red` and `ulpfec` of video. RED of audio stays.
  * - `no_media`: comfort noise, error correction, and telephone events, whose packets polls report.
  * - Pairs of SSRCs (`a=ssrc-group:FID`), and ids of header extensions, of all sections: those of values, those of MID, RID and
  *   repaired RID (`name_ids`), and `dependency_descriptor`.
@@ -298,6 +299,24 @@ typedef struct {
  * cpay_session_new accepts the settings. CPAY_INVALID: *fault has the reason. If the call fails, all else is unchanged. */
 CPAY_CHECKED cpay_status cpay_sdp_session(const cpay_sdp_media *media, size_t media_len, cpay_sdp_session_settings *session,
                                           cpay_sdp_session_fault *fault);
+
+/** Settings of a port with FEC: what cpay_fec_port_new takes. */
+typedef struct {
+    cpay_fec_port_settings settings;
+    size_t retransmissions_len;
+    cpay_retransmission_type retransmissions[CPAY_SDP_MAX_FORMATS];
+} cpay_sdp_fec_port_settings;
+
+/** Writes settings of a cpay_fec_port in front of a session whose settings cpay_sdp_session wrote for the same sections.
+ *
+ * - RED and ULPFEC: the first ones of the first section of video that has both. RED whose `a=fmtp` names payload types is none.
+ * - Retransmissions: the payload type whose `apt` is RED, and for each format of media of the section the one whose `apt` is it.
+ * - Late elements: the ids of the section for the transport-wide number, abs-send-time, toffset and video-timing.
+ * - All else is as cpay_fec_port_settings_init sets it.
+ *
+ * cpay_fec_port_new accepts the settings. CPAY_NONE: no section has both, or a payload type is 64 to 95 (RFC 5761, section 4). If
+ * the call fails, *port is unchanged. */
+CPAY_CHECKED cpay_status cpay_sdp_fec_port(const cpay_sdp_media *media, size_t media_len, cpay_sdp_fec_port_settings *port);
 
 /** A text for each error, in English. */
 static inline const char *cpay_sdp_session_error_text(cpay_sdp_session_error error) {

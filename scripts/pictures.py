@@ -213,7 +213,7 @@ def units_under_loss():
 # The layers of the crates, from the top: groups with a title, and their crates in lines. A crate uses crates of its layer and of
 # the layers below.
 LAYERS = (
-    (("library for C", "c/c_receiving c_packets/c_path handle"), ("packets and frames, in Rattle", "core"), ("theorems on whole runs", "server_runs session_units/session_runs answered_runs/forward_runs fec_runs/timely_runs datagram_runs/buffer_runs"),
+    (("library for C", "c/c_receiving c_packets/c_fec c_path/handle"), ("packets and frames, in Rattle", "core"), ("theorems on whole runs", "server_runs session_units/session_runs answered_runs/forward_runs fec_runs/timely_runs datagram_runs/buffer_runs"),
      ("tests", "codec_tests run_tests/datagram_tests"), ("a program", "vectors/lines")),
     (("all streams of a port", "session session_stream/session_requests session_formats"),),
     (("receiving", "receiver stream_edges/datagrams jitter numbers/keyframes references buffer/contiguity metadata/queue index"),

@@ -76,6 +76,14 @@ void cpay_fec_receiver_free(cpay_fec_receiver *receiver) {
     if (receiver) proved_cpay_path_object_free(&receiver->handle);
 }
 
+void cpay_fec_port_free(cpay_fec_port *port) {
+    if (port) proved_cpay_path_object_free(&port->handle);
+}
+
+void cpay_fec_sender_free(cpay_fec_sender *sender) {
+    if (sender) proved_cpay_path_object_free(&sender->handle);
+}
+
 void cpay_session_free(cpay_session *session) {
     if (session) proved_cpay_free(&session->handle);
 }
@@ -755,6 +763,83 @@ cpay_status cpay_fec_receiver_next(cpay_fec_receiver *receiver, uint8_t *bytes, 
 cpay_status proved_cpay_fec_receiver_restart(cpay_handle *receiver);
 cpay_status cpay_fec_receiver_restart(cpay_fec_receiver *receiver) {
     return proved_cpay_fec_receiver_restart(&receiver->handle);
+}
+
+void proved_cpay_fec_port_settings_init(cpay_fec_port_settings *settings);
+void cpay_fec_port_settings_init(cpay_fec_port_settings *settings) {
+    proved_cpay_fec_port_settings_init(settings);
+}
+
+cpay_status proved_cpay_fec_port_new(cpay_handle *port, const cpay_fec_port_settings *settings,
+                                     const cpay_retransmission_type *retransmissions, size_t retransmissions_len);
+cpay_status cpay_fec_port_new(cpay_fec_port *port, const cpay_fec_port_settings *settings,
+                              const cpay_retransmission_type *retransmissions, size_t retransmissions_len) {
+    if (!retransmissions && retransmissions_len) return CPAY_INVALID;
+    return proved_cpay_fec_port_new(&port->handle, settings,
+                                    retransmissions ? retransmissions : (const cpay_retransmission_type *)nothing,
+                                    retransmissions_len);
+}
+
+cpay_status proved_cpay_fec_port_receive(cpay_handle *port, const uint8_t *datagram, size_t datagram_len,
+                                         cpay_lent_packet *passed);
+cpay_status cpay_fec_port_receive(cpay_fec_port *port, const uint8_t *datagram, size_t datagram_len, cpay_lent_packet *passed) {
+    if (!datagram && datagram_len) return CPAY_INVALID;
+    return proved_cpay_fec_port_receive(&port->handle, datagram ? datagram : (const uint8_t *)nothing, datagram_len, passed);
+}
+
+cpay_status proved_cpay_fec_port_next(cpay_handle *port, cpay_lent_packet *packet);
+cpay_status cpay_fec_port_next(cpay_fec_port *port, cpay_lent_packet *packet) {
+    return proved_cpay_fec_port_next(&port->handle, packet);
+}
+
+cpay_status proved_cpay_fec_port_restart(cpay_handle *port, uint32_t ssrc);
+cpay_status cpay_fec_port_restart(cpay_fec_port *port, uint32_t ssrc) {
+    return proved_cpay_fec_port_restart(&port->handle, ssrc);
+}
+
+cpay_status proved_cpay_fec_port_end(cpay_handle *port, uint32_t ssrc);
+cpay_status cpay_fec_port_end(cpay_fec_port *port, uint32_t ssrc) {
+    return proved_cpay_fec_port_end(&port->handle, ssrc);
+}
+
+cpay_status proved_cpay_fec_port_counts(cpay_handle *port, cpay_fec_counts_info *counts);
+cpay_status cpay_fec_port_counts(cpay_fec_port *port, cpay_fec_counts_info *counts) {
+    return proved_cpay_fec_port_counts(&port->handle, counts);
+}
+
+cpay_status proved_cpay_fec_port_stream_counts(cpay_handle *port, uint32_t ssrc, cpay_fec_counts_info *counts);
+cpay_status cpay_fec_port_stream_counts(cpay_fec_port *port, uint32_t ssrc, cpay_fec_counts_info *counts) {
+    return proved_cpay_fec_port_stream_counts(&port->handle, ssrc, counts);
+}
+
+cpay_status proved_cpay_fec_sender_new(cpay_handle *sender, const cpay_fec_sender_settings *settings);
+cpay_status cpay_fec_sender_new(cpay_fec_sender *sender, const cpay_fec_sender_settings *settings) {
+    return proved_cpay_fec_sender_new(&sender->handle, settings);
+}
+
+cpay_status proved_cpay_fec_sender_push(cpay_handle *sender, const uint8_t *datagram, size_t datagram_len,
+                                        cpay_lent_packet *packet, bool *ends);
+cpay_status cpay_fec_sender_push(cpay_fec_sender *sender, const uint8_t *datagram, size_t datagram_len,
+                                 cpay_lent_packet *packet, bool *ends) {
+    if (!datagram && datagram_len) return CPAY_INVALID;
+    return proved_cpay_fec_sender_push(&sender->handle, datagram ? datagram : (const uint8_t *)nothing, datagram_len, packet,
+                                       ends);
+}
+
+cpay_status proved_cpay_fec_sender_finish_frame(cpay_handle *sender, bool keyframe, size_t *count);
+cpay_status cpay_fec_sender_finish_frame(cpay_fec_sender *sender, bool keyframe, size_t *count) {
+    return proved_cpay_fec_sender_finish_frame(&sender->handle, keyframe, count);
+}
+
+cpay_status proved_cpay_fec_sender_packet(cpay_handle *sender, size_t place, uint8_t *bytes, size_t bytes_len, size_t *size);
+cpay_status cpay_fec_sender_packet(cpay_fec_sender *sender, size_t place, uint8_t *bytes, size_t bytes_len, size_t *size) {
+    if (!bytes && bytes_len) return CPAY_INVALID;
+    return proved_cpay_fec_sender_packet(&sender->handle, place, bytes ? bytes : (uint8_t *)nothing, bytes_len, size);
+}
+
+cpay_status proved_cpay_fec_sender_protect(cpay_handle *sender, uint8_t protection, uint8_t keyframe_protection);
+cpay_status cpay_fec_sender_protect(cpay_fec_sender *sender, uint8_t protection, uint8_t keyframe_protection) {
+    return proved_cpay_fec_sender_protect(&sender->handle, protection, keyframe_protection);
 }
 
 void proved_cpay_session_settings_init(cpay_session_settings *settings, cpay_purpose purpose);

@@ -246,6 +246,37 @@ void cpay_fec_receiver_destroy(cpay_fec_receiver *receiver) {
     free(receiver);
 }
 
+cpay_status cpay_fec_port_create(cpay_fec_port **port, const cpay_fec_port_settings *settings,
+                                 const cpay_retransmission_type *retransmissions, size_t retransmissions_len) {
+    cpay_fec_port *made = malloc(sizeof *made);
+    if (!made) return CPAY_OUT_OF_MEMORY;
+    *made = (cpay_fec_port)CPAY_INIT;
+    const cpay_status status = cpay_fec_port_new(made, settings, retransmissions, retransmissions_len);
+    if (status) free(made);
+    else *port = made;
+    return status;
+}
+
+void cpay_fec_port_destroy(cpay_fec_port *port) {
+    cpay_fec_port_free(port);
+    free(port);
+}
+
+cpay_status cpay_fec_sender_create(cpay_fec_sender **sender, const cpay_fec_sender_settings *settings) {
+    cpay_fec_sender *made = malloc(sizeof *made);
+    if (!made) return CPAY_OUT_OF_MEMORY;
+    *made = (cpay_fec_sender)CPAY_INIT;
+    const cpay_status status = cpay_fec_sender_new(made, settings);
+    if (status) free(made);
+    else *sender = made;
+    return status;
+}
+
+void cpay_fec_sender_destroy(cpay_fec_sender *sender) {
+    cpay_fec_sender_free(sender);
+    free(sender);
+}
+
 cpay_status cpay_session_create(cpay_session **session, const cpay_session_settings *settings,
                                 const cpay_session_format *formats, size_t formats_len, const uint8_t *no_media,
                                 size_t no_media_len, const cpay_ssrc_pair *pairs, size_t pairs_len) {

@@ -2,6 +2,7 @@
  *
  * A section is read twice: first its `m=` and `a=rtpmap` lines, which say what each payload type is, then all others. So the order of
  * the lines does not matter. */
+#include "sdp_fec.h"
 #include "sdp_transport.h"
 
 enum { PAYLOAD_TYPES = 128, DEFAULT_PACKET_TIME = 20000, MOST_PACKET_TIME = 100000000, MOST_RED_STEP = 16383 };
@@ -530,17 +531,6 @@ static const cpay_sdp_format *red_over(const cpay_sdp_media *media, uint8_t payl
     return other;
 }
 
-/* The first retransmissions of a payload type. Returns whether there are any. */
-static bool retransmission_of(const cpay_sdp_media *media, uint8_t payload_type, uint8_t *found) {
-    for (size_t i = 0; i < media->format_count; i++) {
-        const cpay_sdp_format *format = &media->formats[i];
-        if (format->role != CPAY_SDP_RETRANSMISSION || !format->has_of || format->of != payload_type) continue;
-        *found = format->payload_type;
-        return true;
-    }
-    return false;
-}
-
 static void set_red(cpay_receiver_settings *settings, const cpay_sdp_media *media, const cpay_sdp_format *red) {
     settings->has_red = true;
     settings->red_payload_type = red->payload_type;
@@ -634,9 +624,9 @@ static bool is_first_media(const cpay_sdp_media *media, const cpay_sdp_format *f
     return true;
 }
 
-/* Whether RED of the section carries FEC beside video. Sessions do not use FEC, so this RED has to be refused. */
+/* Whether RED of the section carries FEC beside video. Sessions do not use FEC: a port in front of them does. */
 static bool has_fec_in_red(const cpay_sdp_media *media, const cpay_sdp_format *format) {
-    if (format->codec != CPAY_VP8 && format->codec != CPAY_VP9 && format->codec != CPAY_AV1) return false;
+    if (!is_video(format->codec)) return false;
     for (size_t i = 0; i < media->format_count; i++)
         if (media->formats[i].role == CPAY_SDP_FEC) return true;
     return false;
@@ -742,9 +732,6 @@ static cpay_sdp_session_fault add_sections(port *it, const cpay_sdp_media *media
     return fault;
 }
 
-/* Whether the payload type is RTCP's on the same port, if a marker is set (RFC 5761, section 4). */
-static bool is_reserved(uint8_t payload_type) { return payload_type >= 64 && payload_type <= 95; }
-
 /* The payload type of the format that is reserved; 0 if none is. */
 static uint8_t reserved_type(const cpay_session_format *it) {
     if (is_reserved(it->payload_type)) return it->payload_type;
@@ -778,7 +765,7 @@ static void set_wait_limits(cpay_sdp_session_settings *session) {
     for (size_t i = 0; i < session->formats_len; i++) {
         uint32_t codec = session->formats[i].spec.codec;
         if (!session->formats[i].nack) continue;
-        if (codec == CPAY_VP8 || codec == CPAY_VP9 || codec == CPAY_AV1) session->settings.video = with_nack.video;
+        if (is_video(codec)) session->settings.video = with_nack.video;
         else session->settings.audio = with_nack.audio;
     }
 }
@@ -811,4 +798,21 @@ cpay_status cpay_sdp_session(const cpay_sdp_media *media, size_t media_len, cpay
     set_wait_limits(&found);
     *session = found;
     return CPAY_OK;
+}
+
+/* ---- Settings of a port with FEC ---- */
+
+cpay_status cpay_sdp_fec_port(const cpay_sdp_media *media, size_t media_len, cpay_sdp_fec_port_settings *port) {
+    static const cpay_sdp_fec_port_settings none;
+    cpay_sdp_fec_port_settings found = none;
+    if (!media && media_len) return CPAY_INVALID;
+    cpay_fec_port_settings_init(&found.settings);
+    for (size_t i = 0; i < media_len; i++) {
+        if (!media[i].is_rtp || !fec_types(&media[i], &found.settings)) continue;
+        set_fec_port(&found, &media[i]);
+        if (has_reserved(&found)) return CPAY_NONE;
+        *port = found;
+        return CPAY_OK;
+    }
+    return CPAY_NONE;
 }

@@ -409,10 +409,41 @@ static void reports(size_t size) {
     cpay_fec_receiver_free(&receiver);
 }
 
+/* Packets of a frame with as many bytes in all, their FEC, and a port that misses the last one. */
+static void fec_ports(size_t size) {
+    const cpay_fec_sender_settings sends = {.ssrc = 7, .red_type = 116, .fec_type = 117, .protection = 255};
+    static const cpay_retransmission_type pairs[128];
+    cpay_fec_port_settings receives;
+    cpay_fec_sender sender = CPAY_INIT;
+    cpay_fec_port port = CPAY_INIT;
+    cpay_lent_packet lent = {room, 0};
+    size_t count = 0, found = 0;
+    bool ends = false;
+    cpay_fec_port_settings_init(&receives);
+    receives.red_type = 116, receives.fec_type = 117, receives.bytes = 512 * size + 1, receives.max_streams = 256;
+    cpay_status status = TOLD(cpay_fec_port_new(&port, &receives, pairs, least(size, 128)));
+    if (status && status != CPAY_OUT_OF_MEMORY) bad++;
+    MADE(cpay_fec_sender_new(&sender, &sends));
+    for (uint8_t number = 0; number < 3; number++) {
+        MADE(cpay_fec_sender_push(&sender, room, packet(room, VP8, 7, number, frame, least(size, 65000)), &lent, &ends));
+        if (number < 2) MADE(cpay_fec_port_receive(&port, lent.at, lent.bytes, &lent));
+    }
+    MADE(cpay_fec_sender_finish_frame(&sender, false, &count));
+    for (size_t i = 0; i < count; i++) {
+        if (cpay_fec_sender_packet(&sender, i, room, sizeof room, &found)) bad++;
+        MADE(cpay_fec_port_receive(&port, room, found, &lent));
+        status = TOLD(cpay_fec_port_next(&port, &lent));
+        if (status && status != CPAY_NONE && status != CPAY_OUT_OF_MEMORY) bad++;
+    }
+    cpay_fec_sender_free(&sender);
+    cpay_fec_port_free(&port);
+}
+
 int main(void) {
     static const size_t sizes[] = {0, 1, 2, 3, 4, 5, 8, 9, 10, 16, 17, 31, 32, 33, 63, 64, 65, 128, 129, 255, 256, 257, 1023, 1024, 1025,
                                    1200, 1201, 1400, 1401, 4097, 10000, 33000, 65500};
-    static void (*const made[])(size_t) = {packetizers, buffers, red, senders, receivers, transport, sessions, waits, rtcp, paths, reports};
+    static void (*const made[])(size_t) = {packetizers, buffers, red, senders, receivers, transport, sessions, waits, rtcp, paths, reports,
+                                          fec_ports};
     kept = 0; /* on Windows the start of a program allocates too */
     for (size_t i = 0; i < sizeof sizes / sizeof *sizes; i++)
         for (size_t k = 0; k < sizeof made / sizeof *made; k++) made[k](sizes[i]);

@@ -3,7 +3,8 @@
 #
 #   c/tests/check.sh FOLDER COMMAND..    the programs are in FOLDER; COMMAND, if given, runs each of them
 #
-# The result of each call: checks, datagrams, lending, session, history, forward, waiting, congestion, paths, reports, rtcp, values, packets, bindings. The
+# The result of each call: checks, datagrams, lending, session, history, forward, waiting, congestion, paths, reports, fec, rtcp, values, packets,
+# bindings. Packets that Chromium sent are rebuilt from its FEC: fec chromium. The
 # examples: first, in memory, and over UDP on loopback a stream, loopback, and a port with two senders, port. The stored script of
 # the program payload_vectors: vectors. Headers of frames, compared with other readers, and hostile frames: frames, frames.txt.
 # Allocations less frees after each type of use, and each allocation of a session refused in turn: oom, and of a forwarder:
@@ -35,7 +36,7 @@ unix() {
 }
 
 # Programs of Windows end in .exe. There the two examples with sockets of Unix are not built, and a program over the DLL is.
-names="first checks datagrams lending session history forward waiting congestion paths reports rtcp packets values bindings"
+names="first checks datagrams lending session history forward waiting congestion paths reports fec rtcp packets values bindings"
 exe=
 if [ -e "$folder/first.exe" ]; then
     exe=.exe
@@ -57,6 +58,10 @@ says first 2 "packets 65536 to 65538: a frame of 3000 bytes"
     says loopback '$' "1278000 bytes of frames, 64 gaps"
     says port 2 "stream 2 of payload type 111: 100 units, 8000 bytes, until a BYE"
     says port '$' "401 datagrams, 1 of RTCP, 0 for no stream"
+}
+"$@" "$folder/fec$exe" chromium <"$root/rust/tests/fec_ports/chromium.bin" >"$work/chromium" || {
+    cat "$work/chromium" >&2
+    fail "fec.c failed for packets of Chromium"
 }
 "$@" "$folder/vectors$exe" <"$vectors/stdin" >"$work/vectors" || fail "vectors.c failed"
 unix "$work/vectors"

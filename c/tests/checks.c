@@ -118,7 +118,14 @@ static void texts(void) {
         {84, "the FEC packet ends inside the header of level 0"},
         {85, "the FEC packet protects no packet"},
         {86, "the FEC packet ends inside the payload of level 0"},
-        {87, "unknown status"},
+        {87, "the streams of the port with FEC are not 1 to 256"},
+        {88, "a payload type of the settings is out of range"},
+        {89, "a payload type of the settings has two meanings"},
+        {90, "the packet exceeds 65547 bytes"},
+        {91, "the packet is of another stream"},
+        {92, "the packet has the payload type of RED or of ULPFEC"},
+        {93, "the packet comes too late"},
+        {94, "unknown status"},
     };
     for (size_t i = 0; i < sizeof rows / sizeof *rows; i++)
         CHECK(strcmp(cpay_status_text((cpay_status)rows[i].status), rows[i].text) == 0);

@@ -214,6 +214,23 @@ static void print_session(size_t count) {
     for (size_t i = 0; i < session.pairs_len; i++) printf("pair %u %u\n", session.pairs[i].ssrc, session.pairs[i].rtx_ssrc);
 }
 
+/* The settings of a port with FEC, which a port must accept, if there are any. */
+static void print_fec_port(size_t count) {
+    static cpay_sdp_fec_port_settings found;
+    const cpay_fec_port_settings *it = &found.settings;
+    cpay_fec_port made = CPAY_INIT;
+    cpay_status status = cpay_sdp_fec_port(media, count, &found);
+    if (status == CPAY_NONE) return;
+    if (status || cpay_fec_port_new(&made, it, found.retransmissions, found.retransmissions_len)) fail("a port does not take its settings");
+    cpay_fec_port_free(&made);
+    printf("FEC port: RED %u", it->red_type);
+    if (it->has_red_retransmission) printf(" RTX %u", it->red_retransmission);
+    printf(", ULPFEC %u, late %u %u %u %u", it->fec_type, it->transport_number, it->abs_send_time, it->transmission_offset, it->video_timing);
+    for (size_t i = 0; i < found.retransmissions_len; i++)
+        printf(", %u RTX %u", found.retransmissions[i].media, found.retransmissions[i].retransmission);
+    printf("\n");
+}
+
 /* The groups, or the fault of one. */
 static void print_groups(const char *text, size_t size) {
     static cpay_sdp_group groups[MOST_GROUPS];
@@ -238,6 +255,7 @@ static void print_description(const char *text, size_t size) {
     else if (status) fail(cpay_status_text(status));
     for (size_t i = 0; !status && i < count; i++) print_media(&media[i]);
     if (!status) print_session(count);
+    if (!status) print_fec_port(count);
 }
 
 /* ---- Faults ---- */
@@ -314,6 +332,41 @@ static void check_pairs(void) {
     if (cpay_sdp_session(NULL, 0, &session, &fault) != CPAY_INVALID || fault.error != CPAY_SDP_NO_MEDIA || fault.value != 0)
         fail("no sections");
     if (session.pairs_len != 7) fail("a failing call changed the settings");
+}
+
+/* Sections with and without a port with FEC: RED and ULPFEC of video in one section, and payload types that differ from those of RTCP. */
+static void check_fec_ports(void) {
+    static const struct {
+        const char *text;
+        unsigned red, fec; /* 0: there is no port */
+    } rows[] = {
+        {"m=video 9 RTP/AVP 96 98 99\na=rtpmap:96 VP8/90000\na=rtpmap:98 red/90000\na=rtpmap:99 ulpfec/90000\n", 98, 99},
+        {"m=video 9 RTP/AVP 96 98 99\na=rtpmap:96 AV1/90000\na=rtpmap:98 RED/90000\na=rtpmap:99 ULPFEC/90000\n", 98, 99},
+        {"m=video 9 RTP/AVP 96 98\na=rtpmap:96 VP8/90000\na=rtpmap:98 red/90000\n", 0, 0},
+        {"m=video 9 RTP/AVP 96 99\na=rtpmap:96 VP8/90000\na=rtpmap:99 ulpfec/90000\n", 0, 0},
+        {"m=video 9 RTP/AVP 96 98 99\na=rtpmap:96 VP8/90000\na=rtpmap:98 red/90000\na=rtpmap:99 flexfec-03/90000\n", 0, 0},
+        {"m=video 9 RTP/AVP 96 98 99\na=rtpmap:96 H264/90000\na=rtpmap:98 red/90000\na=rtpmap:99 ulpfec/90000\n", 0, 0},
+        {"m=audio 9 RTP/AVP 96 98 99\na=rtpmap:96 opus/48000/2\na=rtpmap:98 red/48000\na=rtpmap:99 ulpfec/48000\n", 0, 0},
+        {"m=video 9 RTP/AVP 96 98 99\na=rtpmap:96 VP8/90000\na=rtpmap:98 red/90000\na=fmtp:98 96/96\na=rtpmap:99 ulpfec/90000\n", 0, 0},
+        {"m=video 9 RTP/AVP 96 70 99\na=rtpmap:96 VP8/90000\na=rtpmap:70 red/90000\na=rtpmap:99 ulpfec/90000\n", 0, 0},
+        {"m=video 9 RTP/AVP 96 98 95\na=rtpmap:96 VP8/90000\na=rtpmap:98 red/90000\na=rtpmap:95 ulpfec/90000\n", 0, 0},
+        {"m=video 9 RTP/AVP 96 98 99 64\na=rtpmap:96 VP8/90000\na=rtpmap:98 red/90000\na=rtpmap:99 ulpfec/90000\na=rtpmap:64 rtx/90000\n"
+         "a=fmtp:64 apt=98\n", 0, 0},
+        {"m=audio 9 RTP/AVP 98 99\na=rtpmap:98 red/48000\na=rtpmap:99 ulpfec/48000\nm=video 9 RTP/AVP 96 101 100\na=rtpmap:96 VP9/90000\n"
+         "a=rtpmap:100 red/90000\na=rtpmap:101 ulpfec/90000\n", 100, 101},
+    };
+    static cpay_sdp_fec_port_settings port;
+    cpay_sdp_fault fault = {0, CPAY_SDP_NO_ERROR};
+    size_t count = 0;
+    for (size_t i = 0; i < sizeof rows / sizeof *rows; i++) {
+        if (cpay_sdp_read(rows[i].text, strlen(rows[i].text), media, MOST_MEDIA, &count, &fault)) fail("a line is malformed");
+        port.retransmissions_len = 77, port.settings.red_type = port.settings.fec_type = 0;
+        cpay_status status = cpay_sdp_fec_port(media, count, &port);
+        bool has_port = rows[i].red > 0;
+        if (status != (has_port ? CPAY_OK : CPAY_NONE) || (port.retransmissions_len == 77) == has_port) fail(rows[i].text);
+        if (port.settings.red_type != rows[i].red || port.settings.fec_type != rows[i].fec) fail(rows[i].text);
+    }
+    if (cpay_sdp_fec_port(NULL, 1, &port) != CPAY_INVALID || cpay_sdp_fec_port(NULL, 0, &port) != CPAY_NONE) fail("no sections");
 }
 
 /* Appends a line `count` times. */
@@ -530,6 +583,7 @@ int main(int count, char **words) {
     }
     if (count > 1 && strcmp(words[1], "clashes") == 0) {
         check_pairs();
+        check_fec_ports();
         compare(compare_clash);
         return EXIT_SUCCESS;
     }

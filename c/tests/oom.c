@@ -418,6 +418,50 @@ static int fec_receiver(int *met) {
     return kept == before ? 0 : 5;
 }
 
+/* A sender puts two frames of two packets in RED, with a packet of FEC behind each. Of each frame the second packet is lost, and the port
+ * rebuilds it. A call without memory uses no number, changes no output, and loses no packet. */
+static int fec_call(int *met) {
+    const cpay_fec_sender_settings sends = {.ssrc = 7, .first_number = 1, .red_type = 116, .fec_type = 117, .protection = 1};
+    const cpay_retransmission_type pair = {96, 97};
+    cpay_fec_port_settings receives;
+    cpay_fec_port_settings_init(&receives);
+    receives.red_type = 116, receives.fec_type = 117, receives.bytes = 51200;
+    long before = kept;
+    cpay_fec_sender sender = CPAY_INIT;
+    cpay_fec_port port = CPAY_INIT;
+    cpay_status status;
+    AGAIN(status, cpay_fec_sender_new(&sender, &sends));
+    if (status) return 1;
+    AGAIN(status, cpay_fec_port_new(&port, &receives, &pair, 1));
+    if (status) return 2;
+    for (uint8_t number = 0; number < 4; number++) {
+        const bool last = number % 2 == 1;
+        const uint8_t packet[13] = {0x80, last ? 0x80 | 96 : 96, 0, number, 0, 0, 0, 3, 0, 0, 0, 7, number};
+        cpay_lent_packet sent = {NULL, 99}, passed = {packet, 99};
+        uint8_t fec[64] = {0}, wanted[13];
+        size_t count = 99, size = 99;
+        bool ends = !last;
+        AGAIN(status, cpay_fec_sender_push(&sender, packet, sizeof packet, &sent, &ends));
+        if (status || sent.bytes != 14 || ends != last || sent.at[3] != number + 1 + (number > 1)) return 3;
+        if (!last) {
+            AGAIN(status, cpay_fec_port_receive(&port, sent.at, sent.bytes, &passed));
+            if (status || passed.bytes != 13 || passed.at[12] != number) return 4;
+            continue;
+        }
+        memcpy(wanted, packet, 13), wanted[3] = sent.at[3];
+        AGAIN(status, cpay_fec_sender_finish_frame(&sender, false, &count));
+        if (status || count != 1 || cpay_fec_sender_packet(&sender, 0, fec, sizeof fec, &size)) return 5;
+        AGAIN(status, cpay_fec_port_receive(&port, fec, size, &passed));
+        if (status || passed.bytes != 13 || passed.at[1] != 117) return 6;
+        AGAIN(status, cpay_fec_port_next(&port, &passed));
+        if (status || passed.bytes != 13 || memcmp(passed.at, wanted, 13)) return 7;
+        if (cpay_fec_port_next(&port, &passed) != CPAY_NONE) return 8;
+    }
+    cpay_fec_sender_free(&sender);
+    cpay_fec_port_free(&port);
+    return kept == before ? 0 : 9;
+}
+
 /* A reporter with a name: packets arrive, with a gap, and are reported; the feedback is read with the times of sending. REMB. */
 static int transport(int *met) {
     long before = kept;
@@ -986,6 +1030,7 @@ static int session(int *met) {
     if (!ended) ended = paths(met);
     if (!ended) ended = reports(met);
     if (!ended) ended = fec_receiver(met);
+    if (!ended) ended = fec_call(met);
     if (!ended) ended = port(met);
     if (!ended) ended = ending(met);
     if (!ended) ended = choosing(met);

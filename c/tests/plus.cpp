@@ -346,6 +346,34 @@ void over_reports() {
     CHECK(receiver.next(to, size) == CPAY_NONE && receiver.restart() == CPAY_OK);
 }
 
+void over_fec() {
+    const std::uint8_t first[] = {0x80, 96, 0, 8, 0, 0, 0, 3, 0, 0, 0, 7, 'a'};
+    const std::uint8_t second[] = {0x80, 0x80 | 96, 0, 9, 0, 0, 0, 3, 0, 0, 0, 7, 'b'};
+    const std::uint8_t rebuilt[] = {0x80, 0x80 | 96, 0, 1, 0, 0, 0, 3, 0, 0, 0, 7, 'b'};
+    const cpay_retransmission_type pairs[] = {{96, 97}};
+    cpay_fec_sender_settings sends = {};
+    cpay_fec_port_settings receives = {};
+    cpay_fec_counts_info counts = {};
+    std::array<std::uint8_t, 64> to = {};
+    std::size_t count = 0, size = 0;
+    cpay::bytes sent, passed;
+    cpay::fec_sender sender;
+    cpay::fec_port port;
+    bool ends = true;
+    cpay_fec_port_settings_init(&receives);
+    receives.red_type = sends.red_type = 116, receives.fec_type = sends.fec_type = 117, sends.ssrc = 7;
+    CHECK(port.next(passed) == CPAY_EMPTY && port.make(receives, pairs) == CPAY_OK && sender.make(sends) == CPAY_OK);
+    CHECK(sender.protect(128, 128) == CPAY_OK && sender.push(first, sent, ends) == CPAY_OK && !ends && sent.size() == 14);
+    CHECK(port.receive(sent, passed) == CPAY_OK && passed.size() == 13 && passed[12] == 'a');
+    CHECK(port.receive(first, passed) == CPAY_OK && passed.data() == first && passed.size() == 13);
+    CHECK(sender.push(second, sent, ends) == CPAY_OK && ends && sender.finish_frame(false, count) == CPAY_OK && count == 1);
+    CHECK(sender.packet(0, to, size) == CPAY_OK && port.receive(cpay::bytes(to.data(), size), passed) == CPAY_OK);
+    CHECK(port.next(passed) == CPAY_OK && passed.size() == 13 && std::equal(std::begin(rebuilt), std::end(rebuilt), passed.data()));
+    CHECK(port.next(passed) == CPAY_NONE && port.counts(counts) == CPAY_OK && counts.rebuilt == 1);
+    CHECK(port.counts(7, counts) == CPAY_OK && counts.media == 2 && port.restart(7) == CPAY_OK && port.end(7) == CPAY_OK);
+    CHECK(port.counts(7, counts) == CPAY_NONE);
+}
+
 void over_red() {
     const std::uint32_t distances[] = {1};
     const std::uint8_t payload[] = {1, 2, 3};
@@ -375,6 +403,7 @@ int main() {
     over_a_transport();
     over_a_path();
     over_reports();
+    over_fec();
     over_red();
     return checked();
 }

@@ -414,6 +414,48 @@ class FecPayloadTooShort(Error):
     status = 86
 
 
+class FecStreams(Error):
+    """The streams of a port with FEC are not 1 to 256."""
+
+    status = 87
+
+
+class FecPayloadType(Error):
+    """A payload type of a port with FEC or of a sender of FEC is out of range."""
+
+    status = 88
+
+
+class FecTwoMeanings(Error):
+    """A payload type of a port with FEC or of a sender of FEC has two meanings."""
+
+    status = 89
+
+
+class FecPacketTooLarge(Error):
+    """A packet for a sender of FEC has more than 65547 bytes."""
+
+    status = 90
+
+
+class FecOtherStream(Error):
+    """A packet for a sender of FEC has another SSRC."""
+
+    status = 91
+
+
+class FecPacketType(Error):
+    """A packet for a sender of FEC has the payload type of RED or of ULPFEC."""
+
+    status = 92
+
+
+class FecTooOld(Error):
+    """A packet for a sender of FEC comes too late: FEC was made 64 times since."""
+
+    status = 93
+
+
 BY_STATUS: dict[int, type[Error]] = {
     it.status: it for it in list(globals().values()) if isinstance(it, type) and issubclass(it, Error) and it.status >= 0
 }

@@ -11,6 +11,8 @@ pub mod depacketizer;
 pub mod exchange;
 pub mod extension;
 pub mod fec;
+pub mod fec_port;
+pub mod fec_sender;
 pub mod forwarder;
 pub mod frames;
 pub mod free;

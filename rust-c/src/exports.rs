@@ -11,6 +11,11 @@
 use crate::calls::layers::TemporalLayerInfo;
 use crate::calls::spatial::SpatialFilterState;
 use crate::calls::spatial::SpatialPlaceInfo;
+use crate::fec::lending::LentPacket;
+use crate::fec::port::FecCountsInfo;
+use crate::fec::port_settings::FecPortSettings;
+use crate::fec::port_settings::RetransmissionType;
+use crate::fec::sender_settings::FecSenderSettings;
 use crate::handle::extension_ids::ExtensionIds;
 use crate::handle::extension_values::ExtensionValues;
 use crate::handle::extra::Extra;
@@ -509,6 +514,127 @@ unsafe extern "C" fn cpay_fec_receiver_next(
 #[unsafe(export_name = "proved_cpay_fec_receiver_restart")]
 unsafe extern "C" fn cpay_fec_receiver_restart(handle: &mut PathHandle) -> u32 {
     crate::calls::fec::cpay_fec_receiver_restart(handle)
+}
+
+#[unsafe(export_name = "proved_cpay_fec_port_settings_init")]
+unsafe extern "C" fn cpay_fec_port_settings_init(settings: &mut FecPortSettings) {
+    crate::calls::fec_port::cpay_fec_port_settings_init(settings)
+}
+
+#[unsafe(export_name = "proved_cpay_fec_port_new")]
+unsafe extern "C" fn cpay_fec_port_new(
+    handle: &mut PathHandle,
+    settings: &FecPortSettings,
+    retransmissions: *const RetransmissionType,
+    retransmissions_len: usize,
+) -> u32 {
+    crate::calls::fec_port::cpay_fec_port_new(handle, settings, unsafe {
+        from_raw_parts(retransmissions, retransmissions_len)
+    })
+}
+
+#[unsafe(export_name = "proved_cpay_fec_port_receive")]
+unsafe extern "C" fn cpay_fec_port_receive(
+    handle: &mut PathHandle,
+    datagram: *const u8,
+    datagram_len: usize,
+    passed: &mut LentPacket,
+) -> u32 {
+    crate::calls::fec_port::cpay_fec_port_receive(
+        handle,
+        unsafe { from_raw_parts(datagram, datagram_len) },
+        passed,
+    )
+}
+
+#[unsafe(export_name = "proved_cpay_fec_port_next")]
+unsafe extern "C" fn cpay_fec_port_next(handle: &mut PathHandle, packet: &mut LentPacket) -> u32 {
+    crate::calls::fec_port::cpay_fec_port_next(handle, packet)
+}
+
+#[unsafe(export_name = "proved_cpay_fec_port_restart")]
+unsafe extern "C" fn cpay_fec_port_restart(handle: &mut PathHandle, ssrc: u32) -> u32 {
+    crate::calls::fec_port::cpay_fec_port_restart(handle, ssrc)
+}
+
+#[unsafe(export_name = "proved_cpay_fec_port_end")]
+unsafe extern "C" fn cpay_fec_port_end(handle: &mut PathHandle, ssrc: u32) -> u32 {
+    crate::calls::fec_port::cpay_fec_port_end(handle, ssrc)
+}
+
+#[unsafe(export_name = "proved_cpay_fec_port_counts")]
+unsafe extern "C" fn cpay_fec_port_counts(
+    handle: &mut PathHandle,
+    counts: &mut FecCountsInfo,
+) -> u32 {
+    crate::calls::fec_port::cpay_fec_port_counts(handle, counts)
+}
+
+#[unsafe(export_name = "proved_cpay_fec_port_stream_counts")]
+unsafe extern "C" fn cpay_fec_port_stream_counts(
+    handle: &mut PathHandle,
+    ssrc: u32,
+    counts: &mut FecCountsInfo,
+) -> u32 {
+    crate::calls::fec_port::cpay_fec_port_stream_counts(handle, ssrc, counts)
+}
+
+#[unsafe(export_name = "proved_cpay_fec_sender_new")]
+unsafe extern "C" fn cpay_fec_sender_new(
+    handle: &mut PathHandle,
+    settings: &FecSenderSettings,
+) -> u32 {
+    crate::calls::fec_sender::cpay_fec_sender_new(handle, settings)
+}
+
+#[unsafe(export_name = "proved_cpay_fec_sender_push")]
+unsafe extern "C" fn cpay_fec_sender_push(
+    handle: &mut PathHandle,
+    datagram: *const u8,
+    datagram_len: usize,
+    packet: &mut LentPacket,
+    ends: &mut bool,
+) -> u32 {
+    crate::calls::fec_sender::cpay_fec_sender_push(
+        handle,
+        unsafe { from_raw_parts(datagram, datagram_len) },
+        packet,
+        ends,
+    )
+}
+
+#[unsafe(export_name = "proved_cpay_fec_sender_finish_frame")]
+unsafe extern "C" fn cpay_fec_sender_finish_frame(
+    handle: &mut PathHandle,
+    keyframe: bool,
+    count: &mut usize,
+) -> u32 {
+    crate::calls::fec_sender::cpay_fec_sender_finish_frame(handle, keyframe, count)
+}
+
+#[unsafe(export_name = "proved_cpay_fec_sender_packet")]
+unsafe extern "C" fn cpay_fec_sender_packet(
+    handle: &mut PathHandle,
+    place: usize,
+    bytes: *mut u8,
+    bytes_len: usize,
+    size: &mut usize,
+) -> u32 {
+    crate::calls::fec_sender::cpay_fec_sender_packet(
+        handle,
+        place,
+        unsafe { from_raw_parts_mut(bytes, bytes_len) },
+        size,
+    )
+}
+
+#[unsafe(export_name = "proved_cpay_fec_sender_protect")]
+unsafe extern "C" fn cpay_fec_sender_protect(
+    handle: &mut PathHandle,
+    protection: u8,
+    keyframe_protection: u8,
+) -> u32 {
+    crate::calls::fec_sender::cpay_fec_sender_protect(handle, protection, keyframe_protection)
 }
 
 #[unsafe(export_name = "proved_cpay_forwarder_settings_init")]

@@ -6,7 +6,7 @@ LIBRARY = ["base", "audio", "vp8", "vp9", "av1", "red", "rtp", "sending_red", "r
 # Runs that do the same as those of `datagram_runs`, with one more clause; theorems alone.
 NOT_HERE = {"answered_runs", "fec_runs", "session_units", "timely_runs"}
 # The crates of the library for C, and the module of rust-c that each becomes.
-C_LIBRARY = {"handle": "handle", "c_packets": "packets", "c_path": "path", "c_receiving": "receiving", "c": "calls"}
+C_LIBRARY = {"handle": "handle", "c_packets": "packets", "c_path": "path", "c_fec": "fec", "c_receiving": "receiving", "c": "calls"}
 # Names the users' modules of the library again.
 FACADE = "core"
 # The module below which a crate's modules go. Modules of all other crates go to the root.

@@ -10,6 +10,8 @@ mod depacketizer;
 mod exchange;
 mod extension;
 mod fec;
+mod fec_port;
+mod fec_sender;
 mod forwarder;
 mod frames;
 mod free;

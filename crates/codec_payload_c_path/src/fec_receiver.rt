@@ -35,8 +35,8 @@ pub struct FecReceiverSettings {
     pub video_timing: u8,
 }
 
-/// Returns an id, if there is one.
-fn id_of(id: u8) -> Option<u8>
+/// Returns the id of a header extension, if it was agreed on.
+pub fn id_of(id: u8) -> Option<u8>
     ensures { result ≡ id_of id }
 {
     if id == 0 { None } else { Some(id) }

@@ -8,8 +8,11 @@ use codec_payload::bandwidth::chooser::LayerChoice;
 use codec_payload::bandwidth::offer::RateOffer;
 use codec_payload::bandwidth::path::ViewerPath;
 use codec_payload::bandwidth::resends::ResendLimit;
+use codec_payload::fec::fec_port::FecPort;
 use codec_payload::fec::fec_receiver::FecReceiver;
+use codec_payload::fec::fec_sender::FecSender;
 use codec_payload::fec::store::PacketStore;
+use codec_payload::payloads::Payloads;
 
 /// A path to a viewer, and memory for the choices of layers of a call; it is reused.
 #[derive(Debug)]
@@ -25,6 +28,22 @@ pub struct CallerFec {
     pub packet: Option<Vec<u8>>,
 }
 
+/// A port with FEC, the packet that passes in the place of the latest datagram, and the latest packet that was rebuilt. Both are lent.
+#[derive(Debug)]
+pub struct CallerFecPort {
+    pub port: FecPort,
+    pub passed: Vec<u8>,
+    pub rebuilt: Vec<u8>,
+}
+
+/// A sender of FEC, the latest packet that it put in RED, which is lent, and the FEC of the latest frame.
+#[derive(Debug)]
+pub struct CallerFecSender {
+    pub sender: FecSender,
+    pub packet: Vec<u8>,
+    pub fec: Payloads,
+}
+
 /// A value behind a handle. Each has its own box, so that no handle takes the memory of the largest type.
 #[derive(Debug)]
 pub enum PathObject {
@@ -33,4 +52,6 @@ pub enum PathObject {
     PacketStore(One<PacketStore>),
     FecReceiver(One<CallerFec>),
     RateOffer(One<RateOffer>),
+    FecPort(One<CallerFecPort>),
+    FecSender(One<CallerFecSender>),
 }

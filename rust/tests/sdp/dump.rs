@@ -1,6 +1,7 @@
 //! A description as text: what `c/tests/descriptions.c` prints of it.
 
 use codec_payload::Codec;
+use codec_payload::fec::FecPort;
 use codec_payload::sdp::{
     self, Direction, Format, Kind, Media, Role, SessionError, Setup, Transport,
 };
@@ -377,6 +378,33 @@ fn add_session(out: &mut String, media: &[Media<'_>]) -> std::fmt::Result {
     Ok(())
 }
 
+/// The settings of a port with FEC, which a port must accept, if there are any.
+fn add_fec_port(out: &mut String, media: &[Media<'_>]) -> std::fmt::Result {
+    let Some(it) = sdp::fec_port_settings(media).unwrap() else {
+        return Ok(());
+    };
+    write!(out, "FEC port: RED {}", it.red_type)?;
+    if let Some(rtx) = it.red_retransmission {
+        write!(out, " RTX {rtx}")?;
+    }
+    write!(out, ", ULPFEC {}, late", it.fec_type)?;
+    let late = &it.late_ids;
+    for id in [
+        late.transport_number,
+        late.abs_send_time,
+        late.transmission_offset,
+        late.video_timing,
+    ] {
+        write!(out, " {}", id.unwrap_or(0))?;
+    }
+    for pair in &it.retransmissions {
+        write!(out, ", {} RTX {}", pair.media, pair.retransmission)?;
+    }
+    assert_eq!((it.bytes, it.max_streams), (768_000, 64));
+    FecPort::new(it).unwrap();
+    writeln!(out)
+}
+
 /// The text and the number that the library for C gives for an error.
 pub fn reason(fault: SessionError) -> String {
     match fault {
@@ -400,6 +428,7 @@ pub fn dump(text: &str) -> String {
                 add_media(&mut out, media).unwrap();
             }
             add_session(&mut out, &found).unwrap();
+            add_fec_port(&mut out, &found).unwrap();
         }
         Err(fault) => writeln!(out, "{fault}").unwrap(),
     }
