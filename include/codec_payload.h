@@ -300,6 +300,10 @@ typedef struct {
 
 typedef struct {
     cpay_handle handle;
+} cpay_rate_offer;
+
+typedef struct {
+    cpay_handle handle;
 } cpay_packet_store;
 
 typedef struct {
@@ -327,6 +331,7 @@ void cpay_transport_reporter_free(cpay_transport_reporter *reporter);
 void cpay_sent_packets_free(cpay_sent_packets *packets);
 void cpay_path_free(cpay_path *path);
 void cpay_resend_limit_free(cpay_resend_limit *limit);
+void cpay_rate_offer_free(cpay_rate_offer *offer);
 void cpay_packet_store_free(cpay_packet_store *store);
 void cpay_fec_receiver_free(cpay_fec_receiver *receiver);
 void cpay_session_free(cpay_session *session);
@@ -1459,6 +1464,47 @@ CPAY_CHECKED cpay_status cpay_resend_limit_sent(cpay_resend_limit *limit, uint64
 /** Asks whether the packet with this number may be retransmitted now, as cpay_path_resend does. Does not allocate. */
 CPAY_CHECKED cpay_status cpay_resend_limit_ask(cpay_resend_limit *limit, uint64_t now, uint16_t number, uint32_t size,
                                                uint64_t round_trip, cpay_resend_answer *answer);
+
+/* ---- The rate that is offered to a publisher ---- */
+
+/** How a rate is offered to a publisher. Rates are in bits per second, from 0 to UINT64_MAX. */
+typedef struct {
+    uint64_t start; /**< estimate of the publisher's path at the beginning: 300000 by default */
+    uint64_t least; /**< no estimate is below this rate: 50000 by default */
+    uint64_t most;  /**< no estimate is above this rate: 10000000 by default */
+    uint64_t wants; /**< what you want from the publisher: no offer is above it, 2500000 by default */
+} cpay_rate_offer_settings;
+
+/** Sets the defaults. Does not allocate. */
+void cpay_rate_offer_settings_init(cpay_rate_offer_settings *settings);
+
+/** Creates an offer of a rate to one publisher in an empty handle, for a session with REMB in place of transport-wide feedback:
+ * what the publisher's path carries, and at most what you want. Note each packet of RTP that arrives, and send the rate of
+ * cpay_rate_offer_take_due with cpay_write_remb. The estimate falls to what the path carries while packets wait in a queue.
+ * While none waits, the publisher is offered a fifth more for 0.8 s; if it sends at least 84 percent of its rate then, the
+ * estimate rises by that fifth. `now` is in microseconds of your clock in all calls on an offer. Allocates about 8 kB. [m] */
+CPAY_CHECKED cpay_status cpay_rate_offer_new(cpay_rate_offer *offer, const cpay_rate_offer_settings *settings);
+
+/** Notes a packet of `size` bytes that arrives now. `abs_send_time` is the value of its header extension
+ * http://www.webrtc.org/experiments/rtp-hdrext/abs-send-time: seconds with 18 binary digits after the point, 24 bits; higher bits
+ * are ignored. Does not allocate. */
+CPAY_CHECKED cpay_status cpay_rate_offer_arrived(cpay_rate_offer *offer, uint64_t now, uint32_t abs_send_time, uint32_t size);
+
+/** Notes a packet of `size` bytes that arrives now, and was sent at this time in microseconds of the publisher's clock: for
+ * example its RTP time as 64 bits, times 1000000, by the clock rate. Use one of the two calls for all packets. Does not
+ * allocate. */
+CPAY_CHECKED cpay_status cpay_rate_offer_arrived_by(cpay_rate_offer *offer, uint64_t now, uint64_t sent, uint32_t size);
+
+/** Notes that a packet is lost. Does not allocate. */
+CPAY_CHECKED cpay_status cpay_rate_offer_lost(cpay_rate_offer *offer);
+
+/** Sets what you want from the publisher, in bits per second: no later offer is above it. Does not allocate. */
+CPAY_CHECKED cpay_status cpay_rate_offer_set_wants(cpay_rate_offer *offer, uint64_t wants);
+
+/** Judges the path, each 50 ms at most, and writes the rate to offer now, in bits per second. One is due each second, and at once
+ * if it changed by a thirty-second. Call it with each packet, or each 50 ms. `round_trip` is that of the publisher, in
+ * microseconds. CPAY_NONE: no offer is due; *rate is unchanged. Does not allocate. */
+CPAY_CHECKED cpay_status cpay_rate_offer_take_due(cpay_rate_offer *offer, uint64_t now, uint64_t round_trip, uint64_t *rate);
 
 /* ---- Extended reports: the round trip of a receiver that sends nothing (RFC 3611) ---- */
 
