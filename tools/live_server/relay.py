@@ -57,12 +57,13 @@ class Relay(threading.Thread):
 
 
 class Narrow(Relay):
-    """A relay whose second side sends to the first one over a narrow link: a rate in bit/s, or steps of (seconds, rate), with a queue
-    of so many seconds that drops what does not fit, and 20 ms each way. It notes for each datagram of the second side when it came,
-    how long it waited, and its bytes; None in place of the wait: it was dropped."""
+    """A relay whose second side, or the one with the number `narrow`, sends to the other one over a narrow link: a rate in bit/s, or steps
+    of (seconds, rate), with a queue of so many seconds that drops what does not fit, and 20 ms each way. It notes for each datagram
+    of this side when it came, how long it waited, and its bytes; None in place of the wait: it was dropped."""
 
-    def __init__(self, rate, longest, loss=0, seed=1):
+    def __init__(self, rate, longest, loss=0, seed=1, narrow=1):
         super().__init__(loss, seed=seed)
+        self.narrow = narrow
         self.steps = rate if isinstance(rate, list) else [(float("inf"), rate)]
         self.longest, self.free, self.waiting, self.began, self.noted = longest, 0, [], None, []
 
@@ -79,7 +80,7 @@ class Narrow(Relay):
         """When a datagram of this side is delivered. None: it is lost or dropped."""
         now = time.monotonic()
         lost = 128 <= data[0] < 192 and self.chance.random() >= self.kept
-        if side == 0:
+        if side != self.narrow:
             return None if lost else now + 0.02
         if self.began is None and 128 <= data[0] < 192:
             self.began = now

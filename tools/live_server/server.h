@@ -68,6 +68,7 @@ typedef struct {
     char layers[MOST_LAYERS][MOST_NAME]; /* the RIDs of simulcast, in the order of the offer; 0 or 1: no simulcast */
     int layers_len;
     uint8_t transport_id; /* id of the header extension with the transport-wide number; 0: none */
+    uint8_t send_time_id; /* of a publisher with REMB: that of abs-send-time; 0: none */
     publisher *publisher;         /* one of the two: a publisher, or the streams of a viewer by their kinds */
     outgoing *viewer;
     viewer_path *path;            /* of a viewer */
@@ -86,8 +87,8 @@ typedef struct {
     int candidates_len;
     uint16_t http, udp;
     unsigned peers; /* the most at once */
-    bool transport, remb; /* feedback about each packet, or a largest bitrate */
-    uint32_t bitrate;     /* of REMB, in bits per second */
+    bool transport, remb; /* feedback about each packet, or a rate that is offered */
+    uint32_t bitrate;     /* the most that REMB offers, in bits per second */
     impairment network;
     double damage; /* percent of the packets whose bytes are changed after SRTP, for tests */
 } options;
@@ -175,6 +176,20 @@ uint64_t publisher_keyframe(const peer *it, int track);
 void publisher_stats(peer *it, FILE *to);
 void publisher_free(peer *it);
 int last_track(const peer *it); /* of video: the layer that is recorded, and that a viewer gets first */
+
+/* offer.c: the rate that is offered to a publisher. Times are in microseconds. */
+typedef struct {
+    cpay_rate_offer offer;
+    uint64_t time;        /* the latest RTP time of the video as 64 bits; 0: none yet */
+    int64_t lost[TRACKS]; /* packets of each track that were noted as lost */
+    uint64_t rate;        /* the latest offer, in bits per second; 0: none yet */
+} offering;
+bool offer_begin(offering *it); /* false: out of memory */
+void offer_note(offering *it, uint8_t send_time_id, const uint8_t *datagram, size_t size, uint64_t now); /* by abs-send-time */
+void offer_note_by(offering *it, uint32_t rtp_time, size_t size, uint64_t now);
+void offer_losses(offering *it, int track, int64_t lost); /* how many packets of the track are lost since its beginning */
+bool offer_due(offering *it, uint64_t now, uint64_t round_trip); /* `rate` is to be offered now */
+void offer_free(offering *it);
 
 /* viewers.c */
 const char *viewer_begin(peer *it, peer *of);   /* NULL, or what is wrong */
