@@ -4,9 +4,10 @@
     ./bandwidth.py [ROW..]                    all rows of the table, as Markdown, or these rows
     ./bandwidth.py --before FOLDER [ROW..]    the same of the live_server that is built in this folder: another state of it
     ./bandwidth.py --seconds [ROW..]          each second of these rows, too
+    ./bandwidth.py --codec VP9 [ROW..]        the same with two spatial layers of one stream of VP9
     ./bandwidth.py --janus SIZE [ROW..]       the same of janus, with the small size (0) or the large one (1): it chooses none itself
 
-A publisher sends two sizes of VP8. Each viewer is behind a link of its own: a rate, or steps of 20 s each, with a queue that drops what
+A publisher sends two sizes, of VP8. Each viewer is behind a link of its own: a rate, or steps of 20 s each, with a queue that drops what
 does not fit, 20 ms each way, and losses. The links are simulated by a relay (relay.py), so no right of root is needed. Server, browsers
 and links have real-time priority, if this user may give it. Needs what test.py needs.
 """
@@ -146,13 +147,16 @@ def watched(it, viewers):
     return found
 
 
-def measure(rows, folder=None, step=STEP):
+SIZES = {"VP8": 2, "VP9": 1}  # the streams of a publisher with several sizes
+
+
+def measure(rows, folder=None, step=STEP, codec="VP8"):
     """Viewers behind links, beside one another, and what they saw. A link: rates in kbit/s, each for `step` seconds, the queue in ms,
-    the loss in percent."""
+    the loss in percent. The publisher sends two sizes: in VP8 two streams, in VP9 two spatial layers of one."""
     program = pathlib.Path(folder) / "live_server" if folder else "live_server"
     with real_time(), Server(*(["--page", str(program.parent / "page.html")] if folder else []), program=program) as it:
-        it.page("publish=camera&layers")
-        wait_for("both layers", lambda: sum(stream["frames"] > 200 for stream in it.streams()) == 2, 60)
+        it.page(f"publish=camera&layers&codec={codec}")
+        wait_for("all streams", lambda: sum(stream["frames"] > 200 for stream in it.streams()) == SIZES[codec], 60)
         return watched(it, [Viewer(it, name, each, step) for name, each in rows.items()])
 
 
@@ -182,6 +186,7 @@ def main():
     reader.add_argument("--before", metavar="FOLDER")
     reader.add_argument("--janus", metavar="SIZE", type=int, choices=(0, 1))
     reader.add_argument("--seconds", action="store_true")
+    reader.add_argument("--codec", choices=list(SIZES), default="VP8")
     reader.add_argument("--beside", type=int, default=4, help="viewers that are measured beside one another (4)")
     arguments = reader.parse_args()
     names = arguments.rows or list(ROWS)
@@ -189,7 +194,7 @@ def main():
     for at in range(0, len(names), arguments.beside):
         busy = os.getloadavg()[0]
         rows = {name: ROWS[name] for name in names[at:at + arguments.beside]}
-        found = measure(rows, arguments.before) if arguments.janus is None else measure_janus(rows, arguments.janus)
+        found = measure(rows, arguments.before, codec=arguments.codec) if arguments.janus is None else measure_janus(rows, arguments.janus)
         for name, (viewer, figures) in found.items():
             print(row(name, figures), flush=True)
             if arguments.seconds:

@@ -12,21 +12,8 @@ enum {
     MOST_UNIT = 1 << 20,                /* bytes */
     MOST_MISSING = 256,                 /* numbers that are requested: their NACK fits a datagram */
     MOST_KEPT = 2048,                   /* packets of a stream, for viewers that request them */
-    MOST_FORWARDED = MOST_DATAGRAM - 2, /* bytes of a packet: a retransmission has two more */
-    RATE_INTERVAL = 500,                /* ms in which bytes are counted for a rate */
-    LAYERS = 4,                         /* temporal layers */
-    CARRIED = 52                        /* bytes that a packet has on the path to a viewer beside its RTP */
+    MOST_FORWARDED = MOST_DATAGRAM - 2  /* bytes of a packet: a retransmission has two more */
 };
-
-/* What a track sends, as the path to a viewer carries it: delta frames by their temporal layers, and the latest keyframe. */
-typedef struct {
-    uint64_t at;                      /* ms: when the rates were measured */
-    uint64_t counted[LAYERS];         /* bytes since then */
-    uint64_t rates[LAYERS];           /* bits per second: an eighth of each is the latest interval, if it rises a half */
-    uint64_t latest[LAYERS];          /* of the latest interval alone */
-    uint32_t time;                    /* RTP time of the latest keyframe */
-    uint64_t keyframe, last_keyframe; /* its bytes so far; those of the one before */
-} rates;
 
 /* What is known about the latest stream of a track. */
 typedef struct {
@@ -49,6 +36,18 @@ struct publisher {
 };
 
 int last_track(const peer *it) { return VIDEO + (it->layers_len > 1 ? it->layers_len - 1 : 0); }
+
+/* The sizes of the picture, from the smallest one: the layers of simulcast, or the spatial layers of the only stream. */
+int publisher_sizes(const peer *it) { return it->layers_len > 1 ? it->layers_len : it->publisher->tracks[VIDEO].rates.highest + 1; }
+
+int publisher_size_track(const peer *it, int size) { return it->layers_len > 1 ? VIDEO + size : VIDEO; }
+
+/* The RID of a layer of simulcast, or S0 to S2; "" if there is one size alone. */
+const char *publisher_size_name(const peer *it, int size) {
+    static const char *const spatial[MOST_SPATIAL] = {"S0", "S1", "S2"};
+    if (it->layers_len > 1) return it->layers[size];
+    return publisher_sizes(it) > 1 ? spatial[size] : "";
+}
 
 static int number_of(const peer *it, const track *of) { return (int)(of - it->publisher->tracks); }
 
@@ -277,60 +276,18 @@ bool publisher_clock(peer *it, int number, cpay_sender_clock_info *clock) {
     return of->begun && cpay_session_sender_clock(&it->publisher->session, of->source.ssrc, payload_type, clock) == CPAY_OK;
 }
 
-/* ---- what the tracks send ---- */
-
-/* Counts a packet. Keyframes are not part of the rate: they come when a viewer needs one. */
-void publisher_count(peer *it, int number, const cpay_rtp_info *info, int temporal, bool begins_keyframe) {
-    rates *of = &it->publisher->tracks[number].rates;
-    size_t size = info->payload_len + 12 + CARRIED;
-    if (begins_keyframe && number != AUDIO && info->timestamp != of->time) {
-        of->last_keyframe = of->keyframe;
-        of->keyframe = 0;
-        of->time = info->timestamp;
-    }
-    if (number != AUDIO && of->keyframe + begins_keyframe > 0 && info->timestamp == of->time) of->keyframe += size;
-    else of->counted[temporal < LAYERS ? temporal : LAYERS - 1] += size;
-}
-
-static void measure(rates *of, uint64_t now) {
-    uint64_t passed = now - of->at;
-    if (passed < RATE_INTERVAL) return;
-    for (int i = 0; i < LAYERS; i++) {
-        uint64_t rate = of->at ? of->counted[i] * 8000 / passed : 0;
-        unsigned weight = rate > of->rates[i] ? 2 : 8;
-        of->latest[i] = rate;
-        of->rates[i] = of->rates[i] && rate ? (of->rates[i] * (weight - 1) + rate) / weight : rate;
-        of->counted[i] = 0;
-    }
-    of->at = now;
-}
-
-/* Of the temporal layers up to this one, in bits per second. 0: the track sends nothing now. */
-uint64_t publisher_rate(const peer *it, int number, int temporal) {
-    uint64_t rate = 0;
-    for (int i = 0; i <= temporal && i < LAYERS; i++) rate += it->publisher->tracks[number].rates.rates[i];
-    return rate;
-}
-
-/* The same of the latest interval alone. */
-uint64_t publisher_latest_rate(const peer *it, int number) {
-    uint64_t rate = 0;
-    for (int i = 0; i < LAYERS; i++) rate += it->publisher->tracks[number].rates.latest[i];
-    return rate;
-}
-
-/* The bytes of a keyframe. */
-uint64_t publisher_keyframe(const peer *it, int number) {
-    const rates *of = &it->publisher->tracks[number].rates;
-    return of->keyframe > of->last_keyframe ? of->keyframe : of->last_keyframe;
+void publisher_count(peer *it, int number, const cpay_rtp_info *info, layer at, bool begins_keyframe) {
+    rates_count(&it->publisher->tracks[number].rates, number != AUDIO, info, at, begins_keyframe);
 }
 
 source *publisher_source(peer *it, int number) { return &it->publisher->tracks[number].source; }
 
+const rates *publisher_rates(const peer *it, int number) { return &it->publisher->tracks[number].rates; }
+
 void publisher_tick(peer *it, uint64_t now) {
     publisher *own = it->publisher;
     cpay_sender_clock_info clock = {0};
-    for (int i = 0; i < TRACKS; i++) measure(&own->tracks[i].rates, now);
+    for (int i = 0; i < TRACKS; i++) rates_measure(&own->tracks[i].rates, now);
     for (int i = 0; i < TRACKS; i++)
         if (is_recorded(it, i) && publisher_clock(it, i, &clock)) record_clock(own->record, kind_of(i), &clock);
     if (!the.remb) return;
@@ -366,7 +323,9 @@ void publisher_stats(peer *it, FILE *to) {
             COUNT("received") COUNT("rtcp") COUNT("malformed") COUNT("unknown") COUNT("unassociated") COUNT("offered"),
             counts.received, counts.rtcp, counts.malformed, counts.unknown, counts.unassociated, own->offering.rate);
     record_stats(own->record, to);
-    fputs("\"streams\":[", to);
+    fputs("\"sizes\":[", to);
+    for (int i = 0; i < publisher_sizes(it); i++) fprintf(to, "%s\"%s\"", i ? "," : "", publisher_size_name(it, i));
+    fputs("],\"streams\":[", to);
     for (int i = 0; i < TRACKS; i++) {
         if (!own->tracks[i].begun) continue;
         fputs(comma, to);

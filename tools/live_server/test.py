@@ -286,6 +286,19 @@ def test_steps():
     return figures
 
 
+def test_spatial():
+    """Viewers of a publisher with spatial layers of VP9 (L3T3_KEY, of which Chromium sends two for 640 x 480): one behind 300 kbit/s
+    gets the lower layer; one behind 3,000, 300 and 1,000 kbit/s, 12 s each, falls to it and rises again."""
+    found = measure({"whole": ((300,), 300, 0), "steps": ((3000, 300, 1000), 300, 0)}, step=12, codec="VP9")
+    figures = "; ".join(f"{name}: {seen(found, name)}" for name in found)
+    for name, (viewer, it) in found.items():
+        widths = [width for at, width in it["times"] if at > viewer.link.began + 5]
+        fell = [width for at, width in it["times"] if 20 < at - viewer.link.began < 24]
+        require(it["frames"] > 300 and it["longest"] < 600 and it["freezes"] <= 2 and it["queue"][0] < 100 and it["best"] >= 60, figures)
+        require(set(fell) == {320} and set(widths) == ({320} if name == "whole" else {320, 640}) and widths[-1] == (320 if name == "whole" else 640), widths)
+    return figures
+
+
 def test_longer():
     """The way to a viewer takes 40 ms more from a moment on: that is no queue, and all frames of the large size come again within 6 s."""
     with Server() as it:
@@ -755,7 +768,7 @@ TESTS = {f"{codec}-{loss}": (lambda codec=codec, loss=loss: test_call(codec, los
 TESTS |= {f"firefox-{name}": (lambda words=words: test_firefox(*words)) for name, words in {
     "publishes": (Firefox, Chromium, "VP8", 0), "watches": (Chromium, Firefox, "VP8", 0), "VP8-5": (Firefox, Firefox, "VP8", 5),
     "VP9-2": (Firefox, Firefox, "VP9", 2), "AV1-2": (Firefox, Firefox, "AV1", 2)}.items()}
-TESTS |= {name: globals()[f"test_{name}"] for name in ("refusals", "sessions", "token", "reused", "full", "protect", "disk", "phone", "picture", "reordered", "viewers", "conference", "feedback", "offer", "layers", "fits", "narrow", "steps", "longer", "reload",
+TESTS |= {name: globals()[f"test_{name}"] for name in ("refusals", "sessions", "token", "reused", "full", "protect", "disk", "phone", "picture", "reordered", "viewers", "conference", "feedback", "offer", "layers", "fits", "narrow", "steps", "spatial", "longer", "reload",
                                                       "left", "restart", "blocked", "taken", "camera", "elsewhere", "aiortc", "damaged", "hostile")}
 
 
