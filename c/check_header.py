@@ -39,9 +39,9 @@ KINDS = [
     "cpay_receiver", "cpay_adaptive_wait", "cpay_freezes", "cpay_transport_reporter", "cpay_sent_packets", "cpay_session",
 ]
 # The same for the handles of codec_payload_c_path, which have another call to free them.
-# Structs of the library that no call takes yet.
-UNUSED = {"cpay_rate_offer_settings"}
-PATH_KINDS = ["cpay_path", "cpay_resend_limit", "cpay_packet_store", "cpay_fec_receiver", "cpay_fec_port", "cpay_fec_sender"]
+PATH_KINDS = [
+    "cpay_path", "cpay_resend_limit", "cpay_rate_offer", "cpay_packet_store", "cpay_fec_receiver", "cpay_fec_port", "cpay_fec_sender",
+]
 ALL_KINDS = [*KINDS[:-1], *PATH_KINDS, KINDS[-1]]
 # Types of handles that are the same in C.
 SAME = {"PathHandle": "Handle"}
@@ -354,7 +354,7 @@ def main():
     in_c |= {f"CPAY_{name}": value for name, value in statuses.items()}
     wrong = [
         *differences("header: function", functions, of_header),
-        *differences("header: struct", {name: its for name, its in structs.items() if name not in UNUSED}, its_structs),
+        *differences("header: struct", structs, its_structs),
         *(f"header: {name} is not {value}" for name, value in in_c.items() if numbers.get(name) != value),
     ]
     if f"#if 0\n{read('examples/first.c')}#endif\n" not in read("include/codec_payload.h"):

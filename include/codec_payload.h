@@ -32,13 +32,13 @@
  * comment says otherwise.
  *
  * HANDLES. A packetizer, a depacketizer, a buffer, a RED sender, a sender, a history, a forwarder, a receiver, an adaptive
- * wait, a counter of freezes, a transport reporter, the sent packets of a transport, a path, a resend limit, a packet store, a
- * receiver, a port and a sender of FEC, and a session each live in a handle: a struct of that type in your own memory.
- * Initialise it with CPAY_INIT, create the object by the call named *_new, and end with the call named *_free, which leaves the
- * handle empty. You may free an empty handle. Other calls on an empty handle return CPAY_EMPTY; calls on a handle of another
- * type, as after a cast, return CPAY_OTHER_KIND. Exception: a path, a resend limit, a packet store and the three of FEC
- * recognise each other alone; never cast one to a type other than these six, or a handle of another type to one of them. Never
- * write into a handle. Never copy a handle in use: the library cannot detect that another copy was freed. You may move it in
+ * wait, a counter of freezes, a transport reporter, the sent packets of a transport, a path, a resend limit, an offer of a rate, a
+ * packet store, a receiver, a port and a sender of FEC, and a session each live in a handle: a struct of that type in your own
+ * memory. Initialise it with CPAY_INIT, create the object by the call named *_new, and end with the call named *_free, which leaves
+ * the handle empty. You may free an empty handle. Other calls on an empty handle return CPAY_EMPTY; calls on a handle of another
+ * type, as after a cast, return CPAY_OTHER_KIND. Exception: a path, a resend limit, an offer of a rate, a packet store and the three
+ * of FEC recognise each other alone; never cast one to a type other than these seven, or a handle of another type to one of them.
+ * Never write into a handle. Never copy a handle in use: the library cannot detect that another copy was freed. You may move it in
  * memory if you forget the old place.
  *
  * MEMORY. The library allocates with the program's malloc and realloc and releases with free, only in calls marked [m]. These
@@ -310,6 +310,10 @@ typedef struct {
 
 typedef struct {
     cpay_handle handle;
+} cpay_rate_offer;
+
+typedef struct {
+    cpay_handle handle;
 } cpay_packet_store;
 
 typedef struct {
@@ -345,6 +349,7 @@ void cpay_transport_reporter_free(cpay_transport_reporter *reporter);
 void cpay_sent_packets_free(cpay_sent_packets *packets);
 void cpay_path_free(cpay_path *path);
 void cpay_resend_limit_free(cpay_resend_limit *limit);
+void cpay_rate_offer_free(cpay_rate_offer *offer);
 void cpay_packet_store_free(cpay_packet_store *store);
 void cpay_fec_receiver_free(cpay_fec_receiver *receiver);
 void cpay_fec_port_free(cpay_fec_port *port);
@@ -1480,6 +1485,47 @@ CPAY_CHECKED cpay_status cpay_resend_limit_sent(cpay_resend_limit *limit, uint64
 CPAY_CHECKED cpay_status cpay_resend_limit_ask(cpay_resend_limit *limit, uint64_t now, uint16_t number, uint32_t size,
                                                uint64_t round_trip, cpay_resend_answer *answer);
 
+/* ---- The rate that is offered to a publisher ---- */
+
+/** How a rate is offered to a publisher. Rates are in bits per second, from 0 to UINT64_MAX. */
+typedef struct {
+    uint64_t start; /**< estimate of the publisher's path at the beginning: 300000 by default */
+    uint64_t least; /**< no estimate is below this rate: 50000 by default */
+    uint64_t most;  /**< no estimate is above this rate: 10000000 by default */
+    uint64_t wants; /**< what you want from the publisher: no offer is above it, 2500000 by default */
+} cpay_rate_offer_settings;
+
+/** Sets the defaults. Does not allocate. */
+void cpay_rate_offer_settings_init(cpay_rate_offer_settings *settings);
+
+/** Creates an offer of a rate to one publisher in an empty handle, for a session with REMB in place of transport-wide feedback:
+ * what the publisher's path carries, and at most what you want. Note each packet of RTP that arrives, and send the rate of
+ * cpay_rate_offer_take_due with cpay_write_remb. The estimate falls to what the path carries while packets wait in a queue.
+ * While none waits, the publisher is offered a fifth more for 0.8 s; if it sends at least 84 percent of its rate then, the
+ * estimate rises by that fifth. `now` is in microseconds of your clock in all calls on an offer. Allocates about 8 kB. [m] */
+CPAY_CHECKED cpay_status cpay_rate_offer_new(cpay_rate_offer *offer, const cpay_rate_offer_settings *settings);
+
+/** Notes a packet of `size` bytes that arrives now. `abs_send_time` is the value of its header extension
+ * http://www.webrtc.org/experiments/rtp-hdrext/abs-send-time: seconds with 18 binary digits after the point, 24 bits; higher bits
+ * are ignored. Does not allocate. */
+CPAY_CHECKED cpay_status cpay_rate_offer_arrived(cpay_rate_offer *offer, uint64_t now, uint32_t abs_send_time, uint32_t size);
+
+/** Notes a packet of `size` bytes that arrives now, and was sent at this time in microseconds of the publisher's clock: for
+ * example its RTP time as 64 bits, times 1000000, by the clock rate. Use one of the two calls for all packets. Does not
+ * allocate. */
+CPAY_CHECKED cpay_status cpay_rate_offer_arrived_by(cpay_rate_offer *offer, uint64_t now, uint64_t sent, uint32_t size);
+
+/** Notes that a packet is lost. Does not allocate. */
+CPAY_CHECKED cpay_status cpay_rate_offer_lost(cpay_rate_offer *offer);
+
+/** Sets what you want from the publisher, in bits per second: no later offer is above it. Does not allocate. */
+CPAY_CHECKED cpay_status cpay_rate_offer_set_wants(cpay_rate_offer *offer, uint64_t wants);
+
+/** Judges the path, each 50 ms at most, and writes the rate to offer now, in bits per second. One is due each second, and at once
+ * if it changed by a thirty-second. Call it with each packet, or each 50 ms. `round_trip` is that of the publisher, in
+ * microseconds. CPAY_NONE: no offer is due; *rate is unchanged. Does not allocate. */
+CPAY_CHECKED cpay_status cpay_rate_offer_take_due(cpay_rate_offer *offer, uint64_t now, uint64_t round_trip, uint64_t *rate);
+
 /* ---- Extended reports: the round trip of a receiver that sends nothing (RFC 3611) ---- */
 
 /** What a peer has learned by extended reports. Initialise it with {0}. You may copy it; nothing is freed. */
@@ -1636,7 +1682,7 @@ typedef struct {
 void cpay_fec_port_settings_init(cpay_fec_port_settings *settings);
 
 /** Creates a port in an empty handle: error correction for all streams in front of a session, a forwarder or receivers. A stream
- * is an SSRC, and begins with its first packet of RED or of ULPFEC. Each takes 12 kB then. If all `max_streams` places are
+ * is an SSRC, and begins with its first packet of RED or of ULPFEC. Each takes 16 kB then. If all `max_streams` places are
  * taken, a new stream replaces the first one, in the order in which they began, that may go. A stream may go if it has fewer
  * than 16 packets of media and of FEC each, or had no packet among the latest 16384 of all streams. If no stream may go, the
  * packets of the new one pass, and are not rebuilt.

@@ -441,6 +441,25 @@ public:
     }
 };
 
+/** The rate that is offered to one publisher. */
+class rate_offer : public handle<cpay_rate_offer, cpay_rate_offer_free> {
+public:
+    [[nodiscard]] cpay_status make(const cpay_rate_offer_settings &settings) noexcept {
+        return cpay_rate_offer_new(get(), &settings);
+    }
+    [[nodiscard]] cpay_status arrived(std::uint64_t now, std::uint32_t abs_send_time, std::uint32_t size) noexcept {
+        return cpay_rate_offer_arrived(get(), now, abs_send_time, size);
+    }
+    [[nodiscard]] cpay_status arrived_by(std::uint64_t now, std::uint64_t sent, std::uint32_t size) noexcept {
+        return cpay_rate_offer_arrived_by(get(), now, sent, size);
+    }
+    [[nodiscard]] cpay_status lost() noexcept { return cpay_rate_offer_lost(get()); }
+    [[nodiscard]] cpay_status set_wants(std::uint64_t wants) noexcept { return cpay_rate_offer_set_wants(get(), wants); }
+    [[nodiscard]] cpay_status take_due(std::uint64_t now, std::uint64_t round_trip, std::uint64_t &rate) noexcept {
+        return cpay_rate_offer_take_due(get(), now, round_trip, &rate);
+    }
+};
+
 /** Takes a datagram of RTCP for the round trip: see cpay_xr_receive. */
 [[nodiscard]] inline cpay_status xr_receive(cpay_xr_exchange &exchange, std::uint32_t ssrc, std::uint32_t tick_rate,
                                             std::uint64_t now, bytes rtcp, bool full, bool &answered) noexcept {

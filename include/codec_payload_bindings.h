@@ -145,6 +145,12 @@ CPAY_CHECKED cpay_status cpay_resend_limit_create(cpay_resend_limit **limit, con
 /** Frees a limit of retransmissions and the memory of its handle. */
 void cpay_resend_limit_destroy(cpay_resend_limit *limit);
 
+/** Creates an offer of a rate as cpay_rate_offer_new does. [m] */
+CPAY_CHECKED cpay_status cpay_rate_offer_create(cpay_rate_offer **offer, const cpay_rate_offer_settings *settings);
+
+/** Frees an offer of a rate and the memory of its handle. */
+void cpay_rate_offer_destroy(cpay_rate_offer *offer);
+
 /** Creates a store of packets as cpay_packet_store_new does. [m] */
 CPAY_CHECKED cpay_status cpay_packet_store_create(cpay_packet_store **store, size_t bytes);
 

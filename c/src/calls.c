@@ -68,6 +68,10 @@ void cpay_resend_limit_free(cpay_resend_limit *limit) {
     if (limit) proved_cpay_path_object_free(&limit->handle);
 }
 
+void cpay_rate_offer_free(cpay_rate_offer *offer) {
+    if (offer) proved_cpay_path_object_free(&offer->handle);
+}
+
 void cpay_packet_store_free(cpay_packet_store *store) {
     if (store) proved_cpay_path_object_free(&store->handle);
 }
@@ -670,6 +674,41 @@ cpay_status proved_cpay_resend_limit_ask(cpay_handle *limit, uint64_t now, uint1
 cpay_status cpay_resend_limit_ask(cpay_resend_limit *limit, uint64_t now, uint16_t number, uint32_t size, uint64_t round_trip,
                                   cpay_resend_answer *answer) {
     return proved_cpay_resend_limit_ask(&limit->handle, now, number, size, round_trip, answer);
+}
+
+void proved_cpay_rate_offer_settings_init(cpay_rate_offer_settings *settings);
+void cpay_rate_offer_settings_init(cpay_rate_offer_settings *settings) {
+    proved_cpay_rate_offer_settings_init(settings);
+}
+
+cpay_status proved_cpay_rate_offer_new(cpay_handle *offer, const cpay_rate_offer_settings *settings);
+cpay_status cpay_rate_offer_new(cpay_rate_offer *offer, const cpay_rate_offer_settings *settings) {
+    return proved_cpay_rate_offer_new(&offer->handle, settings);
+}
+
+cpay_status proved_cpay_rate_offer_arrived(cpay_handle *offer, uint64_t now, uint32_t abs_send_time, uint32_t size);
+cpay_status cpay_rate_offer_arrived(cpay_rate_offer *offer, uint64_t now, uint32_t abs_send_time, uint32_t size) {
+    return proved_cpay_rate_offer_arrived(&offer->handle, now, abs_send_time, size);
+}
+
+cpay_status proved_cpay_rate_offer_arrived_by(cpay_handle *offer, uint64_t now, uint64_t sent, uint32_t size);
+cpay_status cpay_rate_offer_arrived_by(cpay_rate_offer *offer, uint64_t now, uint64_t sent, uint32_t size) {
+    return proved_cpay_rate_offer_arrived_by(&offer->handle, now, sent, size);
+}
+
+cpay_status proved_cpay_rate_offer_lost(cpay_handle *offer);
+cpay_status cpay_rate_offer_lost(cpay_rate_offer *offer) {
+    return proved_cpay_rate_offer_lost(&offer->handle);
+}
+
+cpay_status proved_cpay_rate_offer_set_wants(cpay_handle *offer, uint64_t wants);
+cpay_status cpay_rate_offer_set_wants(cpay_rate_offer *offer, uint64_t wants) {
+    return proved_cpay_rate_offer_set_wants(&offer->handle, wants);
+}
+
+cpay_status proved_cpay_rate_offer_take_due(cpay_handle *offer, uint64_t now, uint64_t round_trip, uint64_t *rate);
+cpay_status cpay_rate_offer_take_due(cpay_rate_offer *offer, uint64_t now, uint64_t round_trip, uint64_t *rate) {
+    return proved_cpay_rate_offer_take_due(&offer->handle, now, round_trip, rate);
 }
 
 cpay_status proved_cpay_xr_receive(cpay_xr_exchange *exchange, uint32_t ssrc, uint32_t tick_rate, uint64_t now,

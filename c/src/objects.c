@@ -216,6 +216,21 @@ void cpay_resend_limit_destroy(cpay_resend_limit *limit) {
     free(limit);
 }
 
+cpay_status cpay_rate_offer_create(cpay_rate_offer **offer, const cpay_rate_offer_settings *settings) {
+    cpay_rate_offer *made = malloc(sizeof *made);
+    if (!made) return CPAY_OUT_OF_MEMORY;
+    *made = (cpay_rate_offer)CPAY_INIT;
+    const cpay_status status = cpay_rate_offer_new(made, settings);
+    if (status) free(made);
+    else *offer = made;
+    return status;
+}
+
+void cpay_rate_offer_destroy(cpay_rate_offer *offer) {
+    cpay_rate_offer_free(offer);
+    free(offer);
+}
+
 cpay_status cpay_packet_store_create(cpay_packet_store **store, size_t bytes) {
     cpay_packet_store *made = malloc(sizeof *made);
     if (!made) return CPAY_OUT_OF_MEMORY;

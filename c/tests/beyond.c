@@ -375,6 +375,10 @@ static void paths(size_t size) {
     MADE(cpay_path_choose(&it, UINT64_MAX, choices, size, &order));
     cpay_path_free(&it);
     cpay_resend_limit_free(&limit);
+    const cpay_rate_offer_settings offers = {.start = size, .most = UINT64_MAX, .wants = UINT64_MAX};
+    cpay_rate_offer offer = CPAY_INIT;
+    MADE(cpay_rate_offer_new(&offer, &offers));
+    cpay_rate_offer_free(&offer);
 }
 
 /* Reports about that many packets, and FEC over as many bytes. */

@@ -353,6 +353,30 @@ static int paths(int *met) {
     return kept == before ? 0 : 9;
 }
 
+/* An offer of a rate takes about 8 kB. A call without memory leaves the handle empty, and no other call allocates. */
+static int offers(int *met) {
+    long before = kept;
+    size_t bytes = total;
+    cpay_rate_offer_settings settings;
+    cpay_rate_offer_settings_init(&settings);
+    cpay_rate_offer offer = CPAY_INIT;
+    cpay_status status;
+    uint64_t rate = 0;
+    AGAIN(status, cpay_rate_offer_new(&offer, &settings));
+    if (status) return 1;
+    if (*met == 0 && total - bytes > 9000) return 2;
+    long steady = asked;
+    for (uint32_t i = 0; i < 1000; i++) {
+        if (cpay_rate_offer_arrived(&offer, 10000 * i, 2621 * i, 1000) || cpay_rate_offer_lost(&offer)) return 3;
+        if (cpay_rate_offer_set_wants(&offer, 1000 * i)) return 4;
+        status = cpay_rate_offer_take_due(&offer, 10000 * i, 50000, &rate);
+        if ((status && status != CPAY_NONE) || rate > 1000 * i) return 5;
+    }
+    if (asked != steady) return 6;
+    cpay_rate_offer_free(&offer);
+    return kept == before ? 0 : 7;
+}
+
 /* Reports that are written and read, and a packet that is rebuilt. A call without memory changes nothing. */
 static int reports(int *met) {
     static const uint8_t sent[2][12] = {{0x80, 96, 0, 8, 0, 0, 0, 3, 0, 0, 0, 7}, {0x80, 96, 0, 9, 0, 0, 0, 3, 0, 0, 0, 7}};
@@ -1028,6 +1052,7 @@ static int session(int *met) {
     if (!ended) ended = watching(met);
     if (!ended) ended = transport(met);
     if (!ended) ended = paths(met);
+    if (!ended) ended = offers(met);
     if (!ended) ended = reports(met);
     if (!ended) ended = fec_receiver(met);
     if (!ended) ended = fec_call(met);

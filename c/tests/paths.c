@@ -1,5 +1,5 @@
-/* The path to a viewer, and a limit of retransmissions alone. The times follow from the rates by hand; the feedback was written by hand
- * after draft-holmer-rmcat-transport-wide-cc-extensions-01. */
+/* The path to a viewer, a limit of retransmissions alone, and the rate that is offered to a publisher. The times follow from the rates by
+ * hand; the feedback was written by hand after draft-holmer-rmcat-transport-wide-cc-extensions-01. */
 #include "check.h"
 #include "codec_payload.h"
 
@@ -9,6 +9,7 @@ enum { UNTOUCHED = 0xaa, SSRC = 7, SENDER = 1 };
 typedef union {
     cpay_path path;
     cpay_resend_limit limit;
+    cpay_rate_offer offer;
 } either;
 
 #define EITHER_INIT { CPAY_INIT }
@@ -253,6 +254,139 @@ static void chooses(void) {
     cpay_path_free(&path);
 }
 
+/* ---- a rate that is offered ---- */
+
+enum { LINK_DELAY = 20000, LATE = 300000, SENT_SIZE = 1000, UNDER_WAY = 1024, AHEAD = 1234567890 };
+
+/* A publisher behind a link, whose clock is ahead: it sends at the rate that it was offered, 300 ms after the offer. The link has a queue
+ * of 300 ms, and drops what does not fit. */
+typedef struct {
+    cpay_rate_offer offer;
+    bool by_time; /* without abs-send-time */
+    uint64_t now, rate, next_rate, next_at, owed, free_at;
+    struct {
+        uint64_t sent, arrives;
+    } under_way[UNDER_WAY];
+    unsigned begun, ended;
+    uint64_t offers; /* how many there were */
+    bool good;       /* none was above what is wanted, and each call succeeded */
+} publishing;
+
+/* Seconds with 18 binary digits, of which the extension has 24. */
+static uint32_t abs_send_time(uint64_t sent) { return (uint32_t)(((sent / 1000000) << 18) + ((sent % 1000000) << 18) / 1000000) & 0xffffff; }
+
+static void sends(publishing *it, uint64_t link) {
+    uint64_t begin = it->free_at > it->now ? it->free_at : it->now;
+    if (begin - it->now > LATE) {
+        it->good &= cpay_rate_offer_lost(&it->offer) == CPAY_OK;
+        return;
+    }
+    it->free_at = begin + 8000000ull * SENT_SIZE / link;
+    it->under_way[it->begun % UNDER_WAY].sent = it->now + AHEAD;
+    it->under_way[it->begun++ % UNDER_WAY].arrives = it->free_at + LINK_DELAY;
+}
+
+static void arrives(publishing *it) {
+    for (; it->ended != it->begun && it->under_way[it->ended % UNDER_WAY].arrives <= it->now; it->ended++) {
+        uint64_t sent = it->under_way[it->ended % UNDER_WAY].sent, at = it->under_way[it->ended % UNDER_WAY].arrives;
+        cpay_status status = it->by_time ? cpay_rate_offer_arrived_by(&it->offer, at, sent, SENT_SIZE)
+                                         : cpay_rate_offer_arrived(&it->offer, at, abs_send_time(sent), SENT_SIZE);
+        it->good &= status == CPAY_OK;
+    }
+}
+
+/* Runs for some seconds over a link of that many bits per second. Returns the latest offer. */
+static uint64_t publishes(publishing *it, unsigned seconds, uint64_t link, uint64_t wants) {
+    for (uint64_t until = it->now + seconds * 1000000ull; it->now < until; it->now += 1000) {
+        uint64_t due = 0;
+        if (it->now >= it->next_at) it->rate = it->next_rate;
+        for (it->owed += it->rate / 1000; it->owed >= SENT_SIZE * 8; it->owed -= SENT_SIZE * 8) sends(it, link);
+        arrives(it);
+        if (cpay_rate_offer_take_due(&it->offer, it->now, 2 * LINK_DELAY, &due)) continue;
+        it->good &= due <= wants;
+        it->offers++;
+        if (it->rate == it->next_rate) it->next_at = it->now + LATE;
+        it->next_rate = due;
+    }
+    return it->next_rate;
+}
+
+/* The offer rises to what is wanted on a free link, falls below the rate of a link that carries less, and rises again. */
+static void offers(bool by_time) {
+    cpay_rate_offer_settings settings;
+    cpay_rate_offer_settings_init(&settings);
+    settings.wants = 1000000;
+    publishing it = {.offer = CPAY_INIT, .by_time = by_time, .good = true};
+    CHECK(cpay_rate_offer_new(&it.offer, &settings) == CPAY_OK && cpay_rate_offer_new(&it.offer, &settings) == CPAY_FULL);
+    CHECK(publishes(&it, 20, 3000000, 1000000) == 1000000);
+    uint64_t narrow = publishes(&it, 20, 400000, 1000000);
+    CHECK(narrow >= 200000 && narrow <= 500000);
+    CHECK(publishes(&it, 40, 3000000, 1000000) == 1000000);
+    CHECK(cpay_rate_offer_set_wants(&it.offer, 600000) == CPAY_OK && publishes(&it, 2, 3000000, 600000) == 600000);
+    CHECK(it.good && it.offers >= 82);
+    cpay_rate_offer_free(&it.offer);
+}
+
+/* Before any packet: the rate at the beginning, at once; no judgement for 50 ms; an offer each second; and what is wanted, at once. */
+static void first_offers(void) {
+    cpay_rate_offer offer = CPAY_INIT;
+    cpay_rate_offer_settings settings;
+    uint64_t rate = 7;
+    cpay_rate_offer_settings_init(&settings);
+    CHECK(settings.start == 300000 && settings.least == 50000 && settings.most == 10000000 && settings.wants == 2500000);
+    CHECK(cpay_rate_offer_new(&offer, &settings) == CPAY_OK);
+    CHECK(cpay_rate_offer_take_due(&offer, 5000000, 50000, &rate) == CPAY_OK && rate == 300000);
+    rate = 7;
+    CHECK(cpay_rate_offer_set_wants(&offer, 150000) == CPAY_OK);
+    CHECK(cpay_rate_offer_take_due(&offer, 5049999, 50000, &rate) == CPAY_NONE && rate == 7);
+    CHECK(cpay_rate_offer_take_due(&offer, 5050000, 50000, &rate) == CPAY_OK && rate == 150000);
+    rate = 7;
+    CHECK(cpay_rate_offer_take_due(&offer, 6049999, 50000, &rate) == CPAY_NONE && rate == 7);
+    CHECK(cpay_rate_offer_take_due(&offer, 6099999, 50000, &rate) == CPAY_OK && rate == 150000);
+    cpay_rate_offer_free(&offer);
+}
+
+/* Calls on handles that are empty or of the other type, which change nothing. */
+static void offers_nothing(void) {
+    either it = EITHER_INIT;
+    const cpay_resend_limit_settings limits = {.share = 250};
+    cpay_rate_offer_settings settings;
+    uint64_t rate = 7;
+    cpay_rate_offer_settings_init(&settings);
+    cpay_rate_offer_free(NULL);
+    for (int kind = 0; kind < 2; kind++) {
+        cpay_status status = kind == 0 ? CPAY_EMPTY : CPAY_OTHER_KIND;
+        if (kind == 1) CHECK(cpay_resend_limit_new(&it.limit, &limits) == CPAY_OK && cpay_rate_offer_new(&it.offer, &settings) == CPAY_FULL);
+        CHECK(cpay_rate_offer_arrived(&it.offer, 0, 0, 1) == status && cpay_rate_offer_arrived_by(&it.offer, 0, 0, 1) == status);
+        CHECK(cpay_rate_offer_lost(&it.offer) == status && cpay_rate_offer_set_wants(&it.offer, 1) == status);
+        CHECK(cpay_rate_offer_take_due(&it.offer, 0, 0, &rate) == status && rate == 7);
+    }
+    cpay_resend_limit_free(&it.limit);
+}
+
+/* Times that jump, and sizes at their bounds: no offer is above what is wanted. */
+static void hostile_arrivals(void) {
+    static const uint64_t times[4] = {0, 1, UINT64_MAX, 1ull << 63};
+    cpay_rate_offer offer = CPAY_INIT;
+    cpay_rate_offer_settings settings;
+    uint32_t seed = 12345;
+    bool good = true;
+    cpay_rate_offer_settings_init(&settings);
+    CHECK(cpay_rate_offer_new(&offer, &settings) == CPAY_OK);
+    for (int round = 0; round < 20000; round++) {
+        uint64_t rate = 0, now = round % 97 == 0 ? times[seed >> 30] : (uint64_t)round * 10000;
+        seed = seed * 1664525 + 1013904223;
+        uint32_t size = round % 50 ? seed >> 22 : UINT32_MAX;
+        good &= cpay_rate_offer_arrived(&offer, now, seed, size) == CPAY_OK;
+        good &= cpay_rate_offer_arrived_by(&offer, now, round % 7 ? (uint64_t)seed << (seed & 31) : now, size) == CPAY_OK;
+        if (seed >> 31) good &= cpay_rate_offer_lost(&offer) == CPAY_OK;
+        cpay_status status = cpay_rate_offer_take_due(&offer, now, seed, &rate);
+        good &= (status == CPAY_OK || status == CPAY_NONE) && rate <= settings.wants;
+    }
+    CHECK(good);
+    cpay_rate_offer_free(&offer);
+}
+
 /* Calls on handles that are empty or of the other type, which change nothing. */
 static void handles(void) {
     either it = EITHER_INIT;
@@ -340,5 +474,10 @@ int main(void) {
     chooses();
     handles();
     hostile();
+    first_offers();
+    offers(false);
+    offers(true);
+    offers_nothing();
+    hostile_arrivals();
     return checked();
 }

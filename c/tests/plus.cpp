@@ -314,6 +314,14 @@ void over_a_path() {
     CHECK(answer == CPAY_RESEND_NOW && path.choose(50000, choices, order) == CPAY_OK && order.choice == 1 && order.rose);
     CHECK(path.state(state) == CPAY_OK && state.choice == 1 && state.waiting == 0);
     CHECK(limit.sent(0, 100) == CPAY_OK && limit.ask(0, 1, 26, 1, answer) == CPAY_OK && answer == CPAY_RESEND_SHARE);
+    cpay_rate_offer_settings offers;
+    cpay_rate_offer_settings_init(&offers);
+    cpay::rate_offer offer;
+    std::uint64_t rate = 9;
+    CHECK(offer.lost() == CPAY_EMPTY && offer.make(offers) == CPAY_OK && offer.make(offers) == CPAY_FULL);
+    CHECK(offer.arrived(5000000, 0x123456, 1100) == CPAY_OK && offer.arrived_by(5000001, 5000000, 1100) == CPAY_OK);
+    CHECK(offer.set_wants(150000) == CPAY_OK && offer.take_due(5000001, 50000, rate) == CPAY_OK && rate == 150000);
+    CHECK(offer.take_due(5000002, 50000, rate) == CPAY_NONE && offer.lost() == CPAY_OK);
 }
 
 void over_reports() {

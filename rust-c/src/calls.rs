@@ -26,6 +26,7 @@ pub mod packetizer;
 pub mod path;
 pub mod path_limit;
 pub mod path_report;
+pub mod rate_offer;
 pub mod receiver;
 pub mod receiver_units;
 pub mod red;

@@ -67,6 +67,7 @@ use crate::path::path::PathStateInfo;
 use crate::path::path_report::PathEstimateInfo;
 use crate::path::path_settings::PathSettings;
 use crate::path::path_settings::ResendLimitSettings;
+use crate::path::rate_offer::RateOfferSettings;
 use crate::receiving::adaptive_wait::AdaptiveWaitSettings;
 use crate::receiving::receiver::ReceiverCountsInfo;
 use crate::receiving::receiver::ReceiverSettings;
@@ -1236,6 +1237,59 @@ unsafe extern "C" fn cpay_path_estimate(
     info: &mut PathEstimateInfo,
 ) -> u32 {
     crate::calls::path_report::cpay_path_estimate(handle, info)
+}
+
+#[unsafe(export_name = "proved_cpay_rate_offer_settings_init")]
+unsafe extern "C" fn cpay_rate_offer_settings_init(settings: &mut RateOfferSettings) {
+    crate::calls::rate_offer::cpay_rate_offer_settings_init(settings)
+}
+
+#[unsafe(export_name = "proved_cpay_rate_offer_new")]
+unsafe extern "C" fn cpay_rate_offer_new(
+    handle: &mut PathHandle,
+    settings: &RateOfferSettings,
+) -> u32 {
+    crate::calls::rate_offer::cpay_rate_offer_new(handle, settings)
+}
+
+#[unsafe(export_name = "proved_cpay_rate_offer_arrived")]
+unsafe extern "C" fn cpay_rate_offer_arrived(
+    handle: &mut PathHandle,
+    now: u64,
+    abs_send_time: u32,
+    size: u32,
+) -> u32 {
+    crate::calls::rate_offer::cpay_rate_offer_arrived(handle, now, abs_send_time, size)
+}
+
+#[unsafe(export_name = "proved_cpay_rate_offer_arrived_by")]
+unsafe extern "C" fn cpay_rate_offer_arrived_by(
+    handle: &mut PathHandle,
+    now: u64,
+    sent: u64,
+    size: u32,
+) -> u32 {
+    crate::calls::rate_offer::cpay_rate_offer_arrived_by(handle, now, sent, size)
+}
+
+#[unsafe(export_name = "proved_cpay_rate_offer_lost")]
+unsafe extern "C" fn cpay_rate_offer_lost(handle: &mut PathHandle) -> u32 {
+    crate::calls::rate_offer::cpay_rate_offer_lost(handle)
+}
+
+#[unsafe(export_name = "proved_cpay_rate_offer_set_wants")]
+unsafe extern "C" fn cpay_rate_offer_set_wants(handle: &mut PathHandle, wants: u64) -> u32 {
+    crate::calls::rate_offer::cpay_rate_offer_set_wants(handle, wants)
+}
+
+#[unsafe(export_name = "proved_cpay_rate_offer_take_due")]
+unsafe extern "C" fn cpay_rate_offer_take_due(
+    handle: &mut PathHandle,
+    now: u64,
+    round_trip: u64,
+    rate: &mut u64,
+) -> u32 {
+    crate::calls::rate_offer::cpay_rate_offer_take_due(handle, now, round_trip, rate)
 }
 
 #[unsafe(export_name = "proved_cpay_receiver_new")]

@@ -1,4 +1,4 @@
-//! What a publisher is told, on a simulated link: it follows the rate that it is told after 300 ms.
+//! What is offered to a publisher, on a simulated link: the publisher follows each offer after 300 ms.
 
 use codec_payload::Ticks;
 use codec_payload::bandwidth::{OfferSettings, RateOffer};
@@ -11,7 +11,7 @@ const QUEUE: u64 = 300_000;
 /// A publisher that sends up to `most` bits per second.
 struct Publisher {
     most: u64,
-    /// What it was told, and when.
+    /// What it was offered, and when.
     told: Vec<(u64, u64)>,
     owed: u64,
     /// Its clock is ahead by this, and wraps after 64 s.

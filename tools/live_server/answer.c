@@ -8,6 +8,7 @@
 enum { MOST_SECTIONS = 16, MOST_ANSWER = 16 << 10, OK = 201, BAD = 400, NOT_ACCEPTABLE = 406 };
 
 #define TRANSPORT_WIDE "http://www.ietf.org/id/draft-holmer-rmcat-transport-wide-cc-extensions-01"
+#define SEND_TIME "http://www.webrtc.org/experiments/rtp-hdrext/abs-send-time"
 
 /* A piece of the offer, for "%.*s". */
 #define PIECE(it) (int)(it).len, (it).at
@@ -88,6 +89,7 @@ static void write_section(FILE *to, const peer *it, const cpay_sdp_media *media)
     write_formats(to, media, it, of);
     if (it->transport_id && media->transport_cc_id)
         fprintf(to, "a=extmap:%u " TRANSPORT_WIDE "\r\na=rtcp-fb:%u transport-cc\r\n", media->transport_cc_id, of->payload_type);
+    write_extension(to, media->send_time_id, SEND_TIME);
     if (!it->publisher) write_sources(to, it, of);
     else if (of == &it->media[VIDEO]) write_layers(to, it, media);
 }
@@ -145,13 +147,15 @@ static const char *read_section(peer *it, const cpay_sdp_media *media, const pee
         return "The publisher sends a codec of video that this browser does not offer.\n";
     if (kind == VIDEO && !of && it->media[VIDEO].codec == CPAY_VP8) read_layers(it, media);
     if (the.transport && media->transport_cc_id) it->transport_id = media->transport_cc_id;
+    if (the.remb && kind == VIDEO && !of) it->send_time_id = media->send_time_id;
     return NULL;
 }
 
 /* Forgets the header extensions that the answer does not accept: other stacks give one id to different ones in two sections. */
 static void forget_extensions(const peer *it, cpay_sdp_media *media) {
     media->extension_ids = (cpay_extension_ids){0};
-    media->send_time_id = media->offset_id = media->dependency_descriptor_id = 0;
+    media->offset_id = media->dependency_descriptor_id = 0;
+    if (media->send_time_id != it->send_time_id) media->send_time_id = 0;
     if (it->layers_len < 2) media->mid_id = media->rid_id = media->repaired_rid_id = 0;
 }
 

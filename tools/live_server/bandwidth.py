@@ -4,9 +4,11 @@
     ./bandwidth.py [ROW..]                    all rows of the table, as Markdown, or these rows
     ./bandwidth.py --before FOLDER [ROW..]    the same of the live_server that is built in this folder: another state of it
     ./bandwidth.py --seconds [ROW..]          each second of these rows, too
+    ./bandwidth.py --codec VP9 [ROW..]        the same with two spatial layers of one stream of VP9
+    ./bandwidth.py --two [RATE..]             two viewers on one link of these rates in kbit/s, by default 700, 1,000 and 2,000
     ./bandwidth.py --janus SIZE [ROW..]       the same of janus, with the small size (0) or the large one (1): it chooses none itself
 
-A publisher sends two sizes of VP8. Each viewer is behind a link of its own: a rate, or steps of 20 s each, with a queue that drops what
+A publisher sends two sizes, of VP8. Each viewer is behind a link of its own: a rate, or steps of 20 s each, with a queue that drops what
 does not fit, 20 ms each way, and losses. The links are simulated by a relay (relay.py), so no right of root is needed. Server, browsers
 and links have real-time priority, if this user may give it. Needs what test.py needs.
 """
@@ -20,7 +22,7 @@ import time
 
 from browsers import Failed, wait_for
 from janus import Janus
-from relay import Narrow, Side
+from relay import Link, Narrow, Side
 from servers import Server, real_time
 
 STEPS = (3000, 300, 1000, 3000)
@@ -55,11 +57,11 @@ FRAMES = """(() => {
 class Viewer:
     """A viewer behind a link."""
 
-    def __init__(self, it, name, row, step):
+    def __init__(self, it, name, row, step, link=None):
         self.name, (self.rates, queue, loss), self.step = name, row, step
         self.it, self.seconds = it, step * len(self.rates) if len(self.rates) > 1 else ALONE
         steps = [(self.seconds / len(self.rates), 1000 * rate) for rate in self.rates]
-        self.link, self.seen = Narrow(steps, queue / 1000, loss, seed=len(name) + queue), []
+        self.link, self.seen = Narrow(steps, queue / 1000, loss, seed=len(name) + queue, link=link), []
         self.open()
 
     def open(self):
@@ -146,14 +148,53 @@ def watched(it, viewers):
     return found
 
 
-def measure(rows, folder=None, step=STEP):
+SIZES = {"VP8": 2, "VP9": 1}  # the streams of a publisher with several sizes
+
+
+def measure(rows, folder=None, step=STEP, codec="VP8"):
     """Viewers behind links, beside one another, and what they saw. A link: rates in kbit/s, each for `step` seconds, the queue in ms,
-    the loss in percent."""
+    the loss in percent. The publisher sends two sizes: in VP8 two streams, in VP9 two spatial layers of one."""
     program = pathlib.Path(folder) / "live_server" if folder else "live_server"
     with real_time(), Server(*(["--page", str(program.parent / "page.html")] if folder else []), program=program) as it:
-        it.page("publish=camera&layers")
-        wait_for("both layers", lambda: sum(stream["frames"] > 200 for stream in it.streams()) == 2, 60)
+        it.page(f"publish=camera&layers&codec={codec}")
+        wait_for("all streams", lambda: sum(stream["frames"] > 200 for stream in it.streams()) == SIZES[codec], 60)
         return watched(it, [Viewer(it, name, each, step) for name, each in rows.items()])
+
+
+TOGETHER = 60  # seconds of two viewers
+
+
+def two(rate):
+    """Two viewers on one link of this rate, with a queue of 300 ms, the second from 10 s later on: what each of them gets in kbit/s, from
+    10 s after that on, frames a second, freezes, and the wait of 95 % of the packets in ms."""
+    found, link = [], Link()
+    with real_time(), Server() as it:
+        it.page("publish=camera&layers")
+        wait_for("all streams", lambda: sum(stream["frames"] > 200 for stream in it.streams()) == 2, 60)
+        viewers = [Viewer(it, "first", ((rate,), 300, 0), TOGETHER, link)]
+        wait_for("picture", lambda: viewers[0].page.evaluate("window.frameTimes.length"), 10)
+        time.sleep(10)
+        viewers.append(Viewer(it, "second", ((rate,), 300, 0), TOGETHER, link))
+        wait_for("picture", lambda: viewers[1].page.evaluate("window.frameTimes.length"), 10)
+        begin = time.monotonic() + 10
+        time.sleep(10 + TOGETHER)
+        for viewer in viewers:
+            offset = viewer.page.evaluate("performance.timeOrigin + performance.now()") / 1000 - time.monotonic()
+            times = [at / 1000 - offset for at, _ in viewer.page.evaluate("window.frameTimes") if at / 1000 - offset >= begin]
+            noted = [(wait, size) for at, wait, size in viewer.link.noted if begin <= at < begin + TOGETHER and wait is not None]
+            waits = sorted(1000 * wait for wait, _ in noted)
+            found.append((sum(size for _, size in noted) * 8 / 1000 / TOGETHER, len(times) / TOGETHER,
+                          sum(1000 * (late - early) > FREEZE for early, late in zip(times, times[1:])), waits[int(0.95 * len(waits))]))
+            viewer.link.stopped = True
+    return found
+
+
+def print_two(rates):
+    print("| link, kbit/s | kbit/s of the first | of the second | ratio | frames a second | freezes | queue 95 %, ms |\n|---|---|---|---|---|---|---|")
+    for rate in rates:
+        first, second = two(rate)
+        ratio = max(first[0], second[0]) / min(first[0], second[0])
+        print(f"| {rate} | {first[0]:.0f} | {second[0]:.0f} | {ratio:.1f} | {first[1]:.0f}, {second[1]:.0f} | {first[2]}, {second[2]} | {max(first[3], second[3]):.0f} |", flush=True)
 
 
 class Subscriber(Viewer):
@@ -178,18 +219,25 @@ def measure_janus(rows, size):
 
 def main():
     reader = argparse.ArgumentParser(description=__doc__, formatter_class=argparse.RawDescriptionHelpFormatter)
-    reader.add_argument("rows", nargs="*", choices=[[], *ROWS], default=[])
+    reader.add_argument("rows", nargs="*", default=[])
+    reader.add_argument("--two", action="store_true")
     reader.add_argument("--before", metavar="FOLDER")
     reader.add_argument("--janus", metavar="SIZE", type=int, choices=(0, 1))
     reader.add_argument("--seconds", action="store_true")
+    reader.add_argument("--codec", choices=list(SIZES), default="VP8")
     reader.add_argument("--beside", type=int, default=4, help="viewers that are measured beside one another (4)")
     arguments = reader.parse_args()
+    if arguments.two:
+        print_two([int(rate) for rate in arguments.rows] or (700, 1000, 2000))
+        return 0
     names = arguments.rows or list(ROWS)
+    if unknown := [name for name in names if name not in ROWS]:
+        reader.error(f"no such row: {', '.join(unknown)}; the rows are {', '.join(ROWS)}")
     print(f"| {' | '.join(HEADS)} |\n{'|---' * len(HEADS)}|")
     for at in range(0, len(names), arguments.beside):
         busy = os.getloadavg()[0]
         rows = {name: ROWS[name] for name in names[at:at + arguments.beside]}
-        found = measure(rows, arguments.before) if arguments.janus is None else measure_janus(rows, arguments.janus)
+        found = measure(rows, arguments.before, codec=arguments.codec) if arguments.janus is None else measure_janus(rows, arguments.janus)
         for name, (viewer, figures) in found.items():
             print(row(name, figures), flush=True)
             if arguments.seconds:

@@ -16,7 +16,8 @@ enum {
 
 /* What a viewer gets with a choice. */
 typedef struct {
-    int track, temporal;
+    int track;
+    layer up_to;
 } layers;
 
 typedef struct {
@@ -25,39 +26,54 @@ typedef struct {
     size_t len;
 } list;
 
-/* The highest layer up to `most` that the publisher sends now. */
-static int highest_sent(peer *from, int most) {
-    int track = MIN(most, last_track(from));
-    while (track > VIDEO && publisher_rate(from, track, ALL_LAYERS) == 0) track--;
-    return track;
+static uint64_t rate_of(const peer *from, layers of) { return rates_of(publisher_rates(from, of.track), of.up_to); }
+
+static uint64_t audio_rate(const peer *from) { return rate_of(from, (layers){AUDIO, {0, ALL_LAYERS}}); }
+
+/* A size of the publisher, with temporal layers. */
+static layers layers_of(const peer *from, int size, int temporal) {
+    return (layers){publisher_size_track(from, size), {from->layers_len > 1 ? MOST_SPATIAL - 1 : size, temporal}};
+}
+
+/* Whether the publisher sends a size now. */
+static bool is_sent(const peer *from, int size) {
+    uint64_t rate = rate_of(from, layers_of(from, size, ALL_LAYERS));
+    return rate > 0 && (size == 0 || from->layers_len > 1 || rate > rate_of(from, layers_of(from, size - 1, ALL_LAYERS)));
+}
+
+/* The highest size up to `most` that the publisher sends now. */
+static int highest_sent(const peer *from, int most) {
+    int size = MIN(most, publisher_sizes(from) - 1);
+    while (size > 0 && !is_sent(from, size)) size--;
+    return size;
 }
 
 /* Adds a choice. What a person does not wish, or the publisher does not send, is the nearest choice that is. */
-static void add(list *to, peer *it, peer *from, int track, int temporal) {
-    const viewer_path *path = it->path;
-    int most = highest_sent(from, path->wishes.most), least = MIN(path->wishes.least, most);
-    if (track > most) track = most, temporal = ALL_LAYERS;
-    if (track < least) track = least, temporal = MIN(temporal, 1);
-    temporal = MIN(temporal, path->wishes.temporal);
-    uint64_t video = it->media[VIDEO].used ? publisher_rate(from, track, temporal) : 0;
-    bool begins = it->viewer[VIDEO].begun && track > it->viewer[VIDEO].track;
-    to->layers[to->len] = (layers){track, temporal};
-    to->rates[to->len++] = (cpay_path_choice){.rate = video + publisher_rate(from, AUDIO, 0),
-                                              .begin = begins ? publisher_keyframe(from, track) * 8 * 1000 / KEYFRAME_WITHIN : 0};
+static void add(list *to, const peer *it, const peer *from, int size, int temporal) {
+    const wishes *wish = &it->path->wishes;
+    int most = highest_sent(from, wish->most), least = MIN(wish->least, most);
+    if (size > most) size = most, temporal = ALL_LAYERS;
+    if (size < least) size = least, temporal = MIN(temporal, 1);
+    layers got = layers_of(from, size, MIN(temporal, wish->temporal));
+    bool begins = it->viewer[VIDEO].begun && size > viewer_size(it, from);
+    uint64_t video = it->media[VIDEO].used ? rate_of(from, got) : 0;
+    uint64_t keyframe = begins ? rates_keyframe(publisher_rates(from, got.track), got.up_to.spatial) : 0;
+    to->layers[to->len] = got;
+    to->rates[to->len++] = (cpay_path_choice){.rate = video + audio_rate(from), .begin = keyframe * 8 * 1000 / KEYFRAME_WITHIN};
 }
 
 /* From the lowest to the highest. A larger size with a quarter of its frames is no choice: a person sees it stutter. On a path
  * that loses packets one with half of them is none either: a frame that waits for a retransmission is seen, too. The last choice
  * is the highest again, with a rate to spare: the path is tried up to it. */
-static void list_choices(list *to, peer *it, peer *from) {
+static void list_choices(list *to, const peer *it, const peer *from) {
     bool lossy = it->viewer[VIDEO].losses > LOSSY;
     to->len = 0;
-    for (int temporal = 0; temporal < 2; temporal++) add(to, it, from, VIDEO, temporal);
-    add(to, it, from, VIDEO, ALL_LAYERS);
-    for (int track = VIDEO + 1; track <= last_track(from); track++) {
-        if (lossy) add(to, it, from, track - 1, ALL_LAYERS);
-        else add(to, it, from, track, 1);
-        add(to, it, from, track, ALL_LAYERS);
+    for (int temporal = 0; temporal < 2; temporal++) add(to, it, from, 0, temporal);
+    add(to, it, from, 0, ALL_LAYERS);
+    for (int size = 1; size < publisher_sizes(from); size++) {
+        if (lossy) add(to, it, from, size - 1, ALL_LAYERS);
+        else add(to, it, from, size, 1);
+        add(to, it, from, size, ALL_LAYERS);
     }
     to->layers[to->len] = to->layers[to->len - 1];
     to->rates[to->len] = (cpay_path_choice){.rate = to->rates[to->len - 1].rate * AHEAD / 100};
@@ -65,18 +81,18 @@ static void list_choices(list *to, peer *it, peer *from) {
 }
 
 /* If there is nothing to choose, all is sent: it leaves at the rate at which it comes now, and what waits within a second. */
-static void follow(list *to, const peer *it, peer *from) {
+static void follow(list *to, const peer *it, const peer *from) {
     size_t highest = to->len - 2;
-    int track = to->layers[highest].track;
+    layers all = to->layers[highest];
     if (to->rates[0].rate < to->rates[highest].rate || !it->media[VIDEO].used) return;
-    uint64_t now = publisher_latest_rate(from, track) + publisher_rate(from, AUDIO, 0), waits = it->path->state.waiting * 8;
+    uint64_t now = rates_latest(publisher_rates(from, all.track), all.up_to) + audio_rate(from), waits = it->path->state.waiting * 8;
     for (size_t i = 0; i <= highest; i++) to->rates[i].rate = MAX(to->rates[i].rate, now) + waits;
     to->rates[highest + 1].rate = MAX(to->rates[highest + 1].rate, to->rates[highest].rate);
 }
 
 /* Whether the path has room for RED beside a choice: half of the audio's rate more, and a twentieth of all. */
-static bool has_room_for_red(const viewer_path *path, peer *from, uint64_t rate) {
-    return !path->follows || path->state.estimate >= (rate + publisher_rate(from, AUDIO, 0) / 2) * 21 / 20;
+static bool has_room_for_red(const viewer_path *path, const peer *from, uint64_t rate) {
+    return !path->follows || path->state.estimate >= (rate + audio_rate(from) / 2) * 21 / 20;
 }
 
 /* Whether the last packet of each frame leaves twice: on a path that loses packets, with half of the frames or fewer, and room
@@ -108,9 +124,11 @@ void path_choose(peer *it, peer *from, uint64_t now) {
     size_t chosen = MIN(order.choice, all.len - 1);
     uint64_t rate = all.rates[chosen < all.len - 1 ? chosen : chosen - 1].rate;
     bool late = is_late(path);
-    path->tails = !late && has_room_for_tails(it, all.layers[chosen].temporal, rate);
-    viewer_goes_to(it, all.layers[chosen].track, late ? 0 : all.layers[chosen].temporal,
-                   !late && has_room_for_red(path, from, rate));
+    layers got = all.layers[chosen];
+    path->tails = !late && has_room_for_tails(it, got.up_to.temporal, rate);
+    if (late) got.up_to.temporal = 0;
+    bool falls = viewer_goes_to(it, from, got.track, got.up_to, !late && has_room_for_red(path, from, rate));
+    if (falls && !cpay_path_state(&path->carries, &path->state) && is_late(path)) viewer_stops(it); /* a large picture has begun */
     if (it->media[VIDEO].used && order.padding > 0) {
         path_fill(it, order.padding);
         path->filled = now;

@@ -33,7 +33,7 @@ bool path_begin(peer *it) {
     if (!(it->path = calloc(1, sizeof *it->path))) return false;
     it->path->round_trip = FIRST_ROUND_TRIP;
     it->path->choice = -1;
-    it->path->wishes = (wishes){.least = VIDEO, .most = TRACKS - 1, .temporal = ALL_LAYERS};
+    it->path->wishes = (wishes){.most = MOST_SIZES - 1, .temporal = ALL_LAYERS};
     it->path->follows = it->transport_id != 0;
     it->path->deadline = UINT64_MAX;
     return true;
@@ -113,6 +113,17 @@ void path_remove_video(peer *it) {
     it->path->deadline = 0;
 }
 
+bool path_thin(peer *it, peer *from, cpay_spatial_filter_state *filter) {
+    viewer_path *path = it->path;
+    waiting all[MOST_ORDERED];
+    size_t count = path->order_len;
+    uint8_t before = filter->kept;
+    for (size_t i = 0; i < count; i++) all[i] = path->order[(path->order_first + i) % MOST_ORDERED];
+    path_remove_video(it);
+    for (size_t i = 0; i < count; i++) viewer_offer_again(it, from, all[i], filter);
+    return filter->kept != before;
+}
+
 /* Fills a trial of a higher rate with packets that the viewer has. */
 void path_fill(peer *it, uint32_t bytes) {
     const outgoing *to = &it->viewer[VIDEO];
@@ -154,7 +165,7 @@ static void send_packet(peer *it, peer *from, const cpay_path_leaving *leaving, 
     path->left[place].is_video = one.track != AUDIO && one.what != FILLED && leaving->packet.kind != CPAY_PATH_PADDING;
     if (!path->first_left) path->first_left = now;
     srtp_send(it, out, numbers ? length : size, false);
-    if (from && path->tails && one.what == PACKET && one.track != AUDIO && out[1] & 0x80)
+    if (from && path->tails && (one.what == PACKET || one.what == LAST_PACKET) && one.track != AUDIO && out[1] & 0x80)
         viewer_resend(it, from, VIDEO, path->left[place].repeats);
 }
 

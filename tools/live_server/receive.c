@@ -12,22 +12,8 @@ enum {
     MOST_UNIT = 1 << 20,                /* bytes */
     MOST_MISSING = 256,                 /* numbers that are requested: their NACK fits a datagram */
     MOST_KEPT = 2048,                   /* packets of a stream, for viewers that request them */
-    MOST_FORWARDED = MOST_DATAGRAM - 2, /* bytes of a packet: a retransmission has two more */
-    REMB_INTERVAL = 1000,               /* ms */
-    RATE_INTERVAL = 500,                /* ms in which bytes are counted for a rate */
-    LAYERS = 4,                         /* temporal layers */
-    CARRIED = 52                        /* bytes that a packet has on the path to a viewer beside its RTP */
+    MOST_FORWARDED = MOST_DATAGRAM - 2  /* bytes of a packet: a retransmission has two more */
 };
-
-/* What a track sends, as the path to a viewer carries it: delta frames by their temporal layers, and the latest keyframe. */
-typedef struct {
-    uint64_t at;                      /* ms: when the rates were measured */
-    uint64_t counted[LAYERS];         /* bytes since then */
-    uint64_t rates[LAYERS];           /* bits per second: an eighth of each is the latest interval, if it rises a half */
-    uint64_t latest[LAYERS];          /* of the latest interval alone */
-    uint32_t time;                    /* RTP time of the latest keyframe */
-    uint64_t keyframe, last_keyframe; /* its bytes so far; those of the one before */
-} rates;
 
 /* What is known about the latest stream of a track. */
 typedef struct {
@@ -46,10 +32,22 @@ struct publisher {
     track tracks[TRACKS];
     uint32_t ssrc;     /* ours */
     uint32_t red_step; /* ticks of a packet of audio, with RED */
-    uint64_t remb_sent;
+    offering offering; /* with REMB */
 };
 
 int last_track(const peer *it) { return VIDEO + (it->layers_len > 1 ? it->layers_len - 1 : 0); }
+
+/* The sizes of the picture, from the smallest one: the layers of simulcast, or the spatial layers of the only stream. */
+int publisher_sizes(const peer *it) { return it->layers_len > 1 ? it->layers_len : it->publisher->tracks[VIDEO].rates.highest + 1; }
+
+int publisher_size_track(const peer *it, int size) { return it->layers_len > 1 ? VIDEO + size : VIDEO; }
+
+/* The RID of a layer of simulcast, or S0 to S2; "" if there is one size alone. */
+const char *publisher_size_name(const peer *it, int size) {
+    static const char *const spatial[MOST_SPATIAL] = {"S0", "S1", "S2"};
+    if (it->layers_len > 1) return it->layers[size];
+    return publisher_sizes(it) > 1 ? spatial[size] : "";
+}
 
 static int number_of(const peer *it, const track *of) { return (int)(of - it->publisher->tracks); }
 
@@ -92,6 +90,7 @@ const char *publisher_begin(peer *it, const cpay_sdp_media *media, size_t count)
     secret(&it->publisher->ssrc, sizeof it->publisher->ssrc);
     snprintf(name, sizeof name, "%s-%llu", it->name, (unsigned long long)it->number);
     it->publisher->record = record_new(name, it->media);
+    if (the.remb && !offer_begin(&it->publisher->offering)) return "Out of memory.\n";
     return it->publisher->record && begin_session(it, &found) ? NULL : "Out of memory.\n";
 }
 
@@ -110,6 +109,24 @@ static track *track_of(const peer *it, uint8_t payload_type, uint32_t ssrc) {
     for (int i = 0; i < it->layers_len; i++)
         if (strlen(it->layers[i]) == names.rid_len && !memcmp(it->layers[i], names.rid, names.rid_len)) return &tracks[VIDEO + i];
     return NULL;
+}
+
+/* Notes what the session says about the stream of each track. */
+static void describe(peer *it) {
+    cpay_session *session = &it->publisher->session;
+    cpay_session_stream stream = {0};
+    for (size_t place = 0; cpay_session_stream_at(session, place, &stream) == CPAY_OK; place++) {
+        track *of = track_of(it, stream.payload_type, stream.ssrc);
+        if (of && of->source.ssrc == stream.ssrc &&
+            !cpay_session_peek_report(session, now_ms(), stream.ssrc, stream.payload_type, &of->reported))
+            of->stream = stream;
+    }
+}
+
+/* The packets of a track that are lost: 24 bits with a sign (RFC 3550, section 6.4.1). */
+static int lost_of(const track *of) {
+    uint32_t lost = of->reported.cumulative_lost;
+    return lost < 1 << 23 ? (int)lost : (int)lost - (1 << 24);
 }
 
 /* The packets in RED (RFC 2198), each under its own number: one that was lost is forwarded from a later packet. */
@@ -151,21 +168,47 @@ static void forward(peer *it, const cpay_arrival *arrival, const uint8_t *bytes,
         viewers_forward(it, number, original, size);
 }
 
-/* A datagram for which the session has no memory is a loss. */
-void publisher_take(peer *it, uint8_t *bytes, size_t size) {
-    cpay_arrival arrival = {0};
-    bool taken = !cpay_session_receive_at(&it->publisher->session, now_ms(), now_us(), bytes, size, &arrival);
-    if (taken && arrival.kind == CPAY_ARRIVAL_STREAM && !arrival.status) forward(it, &arrival, bytes, size);
-}
-
-/* ---- events ---- */
-
 static void send_rtcp(peer *it, const uint8_t *bytes, size_t size) {
     uint8_t *out = network_room();
     if (size > MOST_DATAGRAM) return;
     memcpy(out, bytes, size);
     srtp_send(it, out, size, true);
 }
+
+/* Offers a rate to the publisher if that is due: for all layers together. */
+static void offer_rate(peer *it, uint64_t now) {
+    publisher *own = it->publisher;
+    uint8_t bytes[64];
+    uint32_t ssrcs[TRACKS];
+    size_t count = 0, size = 0;
+    for (int i = VIDEO; i < TRACKS; i++)
+        if (own->tracks[i].source.arrived) ssrcs[count++] = own->tracks[i].source.ssrc;
+    if (count == 0 || !offer_due(&own->offering, now, own->tracks[last_track(it)].stream.round_trip * 1000)) return;
+    if (cpay_write_remb(own->ssrc, own->offering.rate, ssrcs, count, bytes, sizeof bytes, &size) == CPAY_OK)
+        send_rtcp(it, bytes, size);
+}
+
+/* Without abs-send-time the time of the layer that viewers get first counts alone: other layers have other times. */
+static void note_arrival(peer *it, const uint8_t *bytes, size_t size) {
+    offering *to = &it->publisher->offering;
+    const source *of = &it->publisher->tracks[last_track(it)].source;
+    cpay_rtp_info info = {0};
+    uint64_t now = now_us();
+    if (cpay_is_rtcp(bytes, size)) return;
+    if (it->send_time_id) offer_note(to, it->send_time_id, bytes, size, now);
+    else if (!cpay_rtp_read(bytes, size, &info) && of->arrived && of->ssrc == info.ssrc) offer_note_by(to, info.timestamp, size, now);
+    offer_rate(it, now);
+}
+
+/* A datagram for which the session has no memory is a loss. */
+void publisher_take(peer *it, uint8_t *bytes, size_t size) {
+    cpay_arrival arrival = {0};
+    bool taken = !cpay_session_receive_at(&it->publisher->session, now_ms(), now_us(), bytes, size, &arrival);
+    if (taken && arrival.kind == CPAY_ARRIVAL_STREAM && !arrival.status) forward(it, &arrival, bytes, size);
+    if (the.remb) note_arrival(it, bytes, size);
+}
+
+/* ---- events ---- */
 
 static void count_unit(track *to, const cpay_event *event) {
     uint64_t waited = now_ms() - event->unit.received;
@@ -220,17 +263,6 @@ uint64_t publisher_deadline(peer *it) {
 
 /* ---- what is due by the clock ---- */
 
-/* A largest bitrate for all layers together. */
-static void send_remb(peer *it) {
-    uint8_t bytes[64];
-    uint32_t ssrcs[TRACKS];
-    size_t count = 0, size = 0;
-    for (int i = VIDEO; i < TRACKS; i++)
-        if (it->publisher->tracks[i].source.arrived) ssrcs[count++] = it->publisher->tracks[i].source.ssrc;
-    if (cpay_write_remb(it->publisher->ssrc, the.bitrate, ssrcs, count, bytes, sizeof bytes, &size) == CPAY_OK)
-        send_rtcp(it, bytes, size);
-}
-
 /* A request for a viewer. The session sends a PLI with its next feedback, within its own limit. */
 void publisher_wants_keyframe(peer *it, int number) {
     cpay_keyframe_answer answer;
@@ -244,85 +276,31 @@ bool publisher_clock(peer *it, int number, cpay_sender_clock_info *clock) {
     return of->begun && cpay_session_sender_clock(&it->publisher->session, of->source.ssrc, payload_type, clock) == CPAY_OK;
 }
 
-/* ---- what the tracks send ---- */
-
-/* Counts a packet. Keyframes are not part of the rate: they come when a viewer needs one. */
-void publisher_count(peer *it, int number, const cpay_rtp_info *info, int temporal, bool begins_keyframe) {
-    rates *of = &it->publisher->tracks[number].rates;
-    size_t size = info->payload_len + 12 + CARRIED;
-    if (begins_keyframe && number != AUDIO && info->timestamp != of->time) {
-        of->last_keyframe = of->keyframe;
-        of->keyframe = 0;
-        of->time = info->timestamp;
-    }
-    if (number != AUDIO && of->keyframe + begins_keyframe > 0 && info->timestamp == of->time) of->keyframe += size;
-    else of->counted[temporal < LAYERS ? temporal : LAYERS - 1] += size;
-}
-
-static void measure(rates *of, uint64_t now) {
-    uint64_t passed = now - of->at;
-    if (passed < RATE_INTERVAL) return;
-    for (int i = 0; i < LAYERS; i++) {
-        uint64_t rate = of->at ? of->counted[i] * 8000 / passed : 0;
-        unsigned weight = rate > of->rates[i] ? 2 : 8;
-        of->latest[i] = rate;
-        of->rates[i] = of->rates[i] && rate ? (of->rates[i] * (weight - 1) + rate) / weight : rate;
-        of->counted[i] = 0;
-    }
-    of->at = now;
-}
-
-/* Of the temporal layers up to this one, in bits per second. 0: the track sends nothing now. */
-uint64_t publisher_rate(const peer *it, int number, int temporal) {
-    uint64_t rate = 0;
-    for (int i = 0; i <= temporal && i < LAYERS; i++) rate += it->publisher->tracks[number].rates.rates[i];
-    return rate;
-}
-
-/* The same of the latest interval alone. */
-uint64_t publisher_latest_rate(const peer *it, int number) {
-    uint64_t rate = 0;
-    for (int i = 0; i < LAYERS; i++) rate += it->publisher->tracks[number].rates.latest[i];
-    return rate;
-}
-
-/* The bytes of a keyframe. */
-uint64_t publisher_keyframe(const peer *it, int number) {
-    const rates *of = &it->publisher->tracks[number].rates;
-    return of->keyframe > of->last_keyframe ? of->keyframe : of->last_keyframe;
+void publisher_count(peer *it, int number, const cpay_rtp_info *info, layer at, bool begins_keyframe) {
+    rates_count(&it->publisher->tracks[number].rates, number != AUDIO, info, at, begins_keyframe);
 }
 
 source *publisher_source(peer *it, int number) { return &it->publisher->tracks[number].source; }
 
+const rates *publisher_rates(const peer *it, int number) { return &it->publisher->tracks[number].rates; }
+
 void publisher_tick(peer *it, uint64_t now) {
     publisher *own = it->publisher;
     cpay_sender_clock_info clock = {0};
-    for (int i = 0; i < TRACKS; i++) measure(&own->tracks[i].rates, now);
+    for (int i = 0; i < TRACKS; i++) rates_measure(&own->tracks[i].rates, now);
     for (int i = 0; i < TRACKS; i++)
         if (is_recorded(it, i) && publisher_clock(it, i, &clock)) record_clock(own->record, kind_of(i), &clock);
-    if (!the.remb || now - own->remb_sent < REMB_INTERVAL || !own->tracks[last_track(it)].source.arrived) return;
-    own->remb_sent = now;
-    send_remb(it);
+    if (!the.remb) return;
+    describe(it);
+    for (int i = 0; i < TRACKS; i++) offer_losses(&own->offering, i, lost_of(&own->tracks[i]));
+    offer_rate(it, now_us());
 }
 
 /* ---- counts ---- */
 
-/* Notes what the session says about the stream of each track. */
-static void describe(peer *it) {
-    cpay_session *session = &it->publisher->session;
-    cpay_session_stream stream = {0};
-    for (size_t place = 0; cpay_session_stream_at(session, place, &stream) == CPAY_OK; place++) {
-        track *of = track_of(it, stream.payload_type, stream.ssrc);
-        if (of && of->source.ssrc == stream.ssrc &&
-            !cpay_session_peek_report(session, now_ms(), stream.ssrc, stream.payload_type, &of->reported))
-            of->stream = stream;
-    }
-}
-
 static void track_stats(const peer *it, int number, FILE *to) {
     const track *of = &it->publisher->tracks[number];
     const cpay_receiver_counts_info *counts = &of->stream.counts;
-    uint32_t lost = of->reported.cumulative_lost; /* 24 bits with a sign */
     stats_stream(to, kind_of(number), &it->media[kind_of(number)],
                  number != AUDIO && it->layers_len > 1 ? it->layers[number - VIDEO] : "");
     fprintf(to,
@@ -332,7 +310,7 @@ static void track_stats(const peer *it, int number, FILE *to) {
             of->stream.taken, of->bytes, of->frames, of->keyframes, of->requested, of->keyframes_requested,
             counts->retransmitted + counts->recovered, counts->late, counts->duplicates, of->stream.probes, counts->incomplete,
             counts->undecodable, of->faults, (uint64_t)counts->held, of->waited, of->longest_wait, of->stream.round_trip,
-            (uint64_t)of->reported.jitter, lost < 1 << 23 ? (int)lost : (int)lost - (1 << 24));
+            (uint64_t)of->reported.jitter, lost_of(of));
 }
 
 void publisher_stats(peer *it, FILE *to) {
@@ -342,10 +320,12 @@ void publisher_stats(peer *it, FILE *to) {
     describe(it);
     if (cpay_session_counts(&own->session, &counts)) counts = (cpay_session_counts_info){0};
     fprintf(to,
-            COUNT("received") COUNT("rtcp") COUNT("malformed") COUNT("unknown") COUNT("unassociated"), counts.received, counts.rtcp,
-            counts.malformed, counts.unknown, counts.unassociated);
+            COUNT("received") COUNT("rtcp") COUNT("malformed") COUNT("unknown") COUNT("unassociated") COUNT("offered"),
+            counts.received, counts.rtcp, counts.malformed, counts.unknown, counts.unassociated, own->offering.rate);
     record_stats(own->record, to);
-    fputs("\"streams\":[", to);
+    fputs("\"sizes\":[", to);
+    for (int i = 0; i < publisher_sizes(it); i++) fprintf(to, "%s\"%s\"", i ? "," : "", publisher_size_name(it, i));
+    fputs("],\"streams\":[", to);
     for (int i = 0; i < TRACKS; i++) {
         if (!own->tracks[i].begun) continue;
         fputs(comma, to);
@@ -360,6 +340,7 @@ void publisher_free(peer *it) {
     if (cpay_session_finish(&own->session, now_ms()) == CPAY_OK) publisher_poll(it);
     record_free(own->record);
     cpay_session_free(&own->session);
+    offer_free(&own->offering);
     for (int i = 0; i < TRACKS; i++) cpay_history_free(&own->tracks[i].source.store);
     free(own);
     it->publisher = NULL;

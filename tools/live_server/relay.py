@@ -56,15 +56,24 @@ class Relay(threading.Thread):
         return re.sub(r"(a=ice-ufrag)", f"a=candidate:1 1 udp 2130706431 127.0.0.1 {mine} typ host\r\n\\1", CANDIDATE.sub("", text))
 
 
-class Narrow(Relay):
-    """A relay whose second side sends to the first one over a narrow link: a rate in bit/s, or steps of (seconds, rate), with a queue
-    of so many seconds that drops what does not fit, and 20 ms each way. It notes for each datagram of the second side when it came,
-    how long it waited, and its bytes; None in place of the wait: it was dropped."""
+class Link:
+    """What the relays on one link share: when it has sent all that came to it, in seconds."""
 
-    def __init__(self, rate, longest, loss=0, seed=1):
+    def __init__(self):
+        self.free, self.lock = 0, threading.Lock()
+
+
+class Narrow(Relay):
+    """A relay whose second side, or the one with the number `narrow`, sends to the other one over a narrow link: a rate in bit/s, or steps
+    of (seconds, rate), with a queue of so many seconds that drops what does not fit, and 20 ms each way. It notes for each datagram
+    of this side when it came, how long it waited, and its bytes; None in place of the wait: it was dropped. With `link` it is on the
+    same link as other relays."""
+
+    def __init__(self, rate, longest, loss=0, seed=1, narrow=1, link=None):
         super().__init__(loss, seed=seed)
+        self.narrow, self.link = narrow, link or Link()
         self.steps = rate if isinstance(rate, list) else [(float("inf"), rate)]
-        self.longest, self.free, self.waiting, self.began, self.noted = longest, 0, [], None, []
+        self.longest, self.waiting, self.began, self.noted = longest, [], None, []
 
     def rate(self, now):
         """The rate now, in bit/s. The first step begins with the first SRTP."""
@@ -79,17 +88,18 @@ class Narrow(Relay):
         """When a datagram of this side is delivered. None: it is lost or dropped."""
         now = time.monotonic()
         lost = 128 <= data[0] < 192 and self.chance.random() >= self.kept
-        if side == 0:
+        if side != self.narrow:
             return None if lost else now + 0.02
         if self.began is None and 128 <= data[0] < 192:
             self.began = now
-        begin = max(now, self.free)
-        if begin - now > self.longest:
-            self.noted.append((now, None, len(data) + 28))
-            return None
-        self.noted.append((now, begin - now, len(data) + 28))
-        self.free = begin + (len(data) + 28) * 8 / self.rate(begin)
-        return None if lost else self.free + 0.02
+        with self.link.lock:
+            begin = max(now, self.link.free)
+            if begin - now > self.longest:
+                self.noted.append((now, None, len(data) + 28))
+                return None
+            self.noted.append((now, begin - now, len(data) + 28))
+            self.link.free = free = begin + (len(data) + 28) * 8 / self.rate(begin)
+        return None if lost else free + 0.02
 
     def run(self):
         with contextlib.suppress(PermissionError):  # a link does not wait for a processor

@@ -16,6 +16,9 @@ enum {
     MOST_PEERS = 65535,      /* that the option --peers may name */
     MOST_PUBLISHERS = 32,
     MOST_LAYERS = 3,         /* of simulcast */
+    MOST_SPATIAL = 3,        /* spatial layers of a stream; higher ones count as the highest */
+    MOST_TEMPORAL = 4,       /* temporal layers, in the same way */
+    MOST_SIZES = 3,          /* of the picture of a publisher */
     MOST_ADDRESSES = 4,      /* of a peer, and of the server */
     MOST_DATAGRAM = 1500,    /* bytes of a datagram without SRTP */
     MOST_NAME = 32,          /* bytes of a name with the 0 at its end */
@@ -68,6 +71,7 @@ typedef struct {
     char layers[MOST_LAYERS][MOST_NAME]; /* the RIDs of simulcast, in the order of the offer; 0 or 1: no simulcast */
     int layers_len;
     uint8_t transport_id; /* id of the header extension with the transport-wide number; 0: none */
+    uint8_t send_time_id; /* of a publisher with REMB: that of abs-send-time; 0: none */
     publisher *publisher;         /* one of the two: a publisher, or the streams of a viewer by their kinds */
     outgoing *viewer;
     viewer_path *path;            /* of a viewer */
@@ -86,8 +90,8 @@ typedef struct {
     int candidates_len;
     uint16_t http, udp;
     unsigned peers; /* the most at once */
-    bool transport, remb; /* feedback about each packet, or a largest bitrate */
-    uint32_t bitrate;     /* of REMB, in bits per second */
+    bool transport, remb; /* feedback about each packet, or a rate that is offered */
+    uint32_t bitrate;     /* the most that REMB offers, in bits per second */
     impairment network;
     double damage; /* percent of the packets whose bytes are changed after SRTP, for tests */
 } options;
@@ -154,6 +158,27 @@ protection *protect_new(const uint8_t *key, const uint8_t *salt); /* NULL: out o
 bool protect_packet(protection *it, uint8_t *bytes, int *size);   /* behind the packet is room for the tag of 16 bytes */
 void protect_free(protection *it);
 
+/* rates.c: what a track sends */
+typedef struct {
+    int spatial, temporal;
+} layer; /* of a stream */
+typedef struct {
+    uint64_t at;                                      /* ms: when the rates were measured */
+    uint64_t counted[MOST_SPATIAL][MOST_TEMPORAL];    /* bytes since then */
+    uint64_t rates[MOST_SPATIAL][MOST_TEMPORAL];      /* bits per second */
+    uint64_t latest[MOST_SPATIAL][MOST_TEMPORAL];     /* of the latest interval alone */
+    int highest;                                      /* the highest spatial layer of which a packet came */
+    bool has_keyframe;                                /* one came */
+    uint32_t time;                                    /* RTP time of the latest keyframe */
+    uint64_t keyframe[MOST_SPATIAL];                  /* its bytes so far */
+    uint64_t last_keyframe[MOST_SPATIAL];             /* those of the one before */
+} rates;
+void rates_count(rates *of, bool video, const cpay_rtp_info *info, layer at, bool begins_keyframe); /* counts a packet */
+void rates_measure(rates *of, uint64_t now);
+uint64_t rates_of(const rates *of, layer up_to); /* of the layers up to this one, in bits per second; 0: none comes now */
+uint64_t rates_latest(const rates *of, layer up_to); /* the same of the latest interval alone */
+uint64_t rates_keyframe(const rates *of, int spatial); /* bytes of a keyframe up to this spatial layer */
+
 /* receive.c: publishers */
 typedef struct {
     bool arrived; /* a packet came */
@@ -168,13 +193,28 @@ uint64_t publisher_deadline(peer *it);
 void publisher_wants_keyframe(peer *it, int track);
 bool publisher_clock(peer *it, int track, cpay_sender_clock_info *clock);
 source *publisher_source(peer *it, int track);
-void publisher_count(peer *it, int track, const cpay_rtp_info *info, int temporal, bool begins_keyframe);
-uint64_t publisher_rate(const peer *it, int track, int temporal);
-uint64_t publisher_latest_rate(const peer *it, int track);
-uint64_t publisher_keyframe(const peer *it, int track);
+void publisher_count(peer *it, int track, const cpay_rtp_info *info, layer at, bool begins_keyframe);
+const rates *publisher_rates(const peer *it, int track);
+int publisher_sizes(const peer *it);
+int publisher_size_track(const peer *it, int size);
+const char *publisher_size_name(const peer *it, int size);
 void publisher_stats(peer *it, FILE *to);
 void publisher_free(peer *it);
 int last_track(const peer *it); /* of video: the layer that is recorded, and that a viewer gets first */
+
+/* offer.c: the rate that is offered to a publisher. Times are in microseconds. */
+typedef struct {
+    cpay_rate_offer offer;
+    uint64_t time;        /* the latest RTP time of the video as 64 bits; 0: none yet */
+    int64_t lost[TRACKS]; /* packets of each track that were noted as lost */
+    uint64_t rate;        /* the latest offer, in bits per second; 0: none yet */
+} offering;
+bool offer_begin(offering *it); /* false: out of memory */
+void offer_note(offering *it, uint8_t send_time_id, const uint8_t *datagram, size_t size, uint64_t now); /* by abs-send-time */
+void offer_note_by(offering *it, uint32_t rtp_time, size_t size, uint64_t now);
+void offer_losses(offering *it, int track, int64_t lost); /* how many packets of the track are lost since its beginning */
+bool offer_due(offering *it, uint64_t now, uint64_t round_trip); /* `rate` is to be offered now */
+void offer_free(offering *it);
 
 /* viewers.c */
 const char *viewer_begin(peer *it, peer *of);   /* NULL, or what is wrong */

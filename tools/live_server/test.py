@@ -31,6 +31,7 @@ import urllib.request
 
 from bandwidth import measure
 from browsers import Chromium, Failed, Firefox, Page, firefox, require, wait_for
+from relay import Narrow
 from servers import HERE, Server, call, free_port, publisher_of, real_time, viewer_of
 
 sys.path.append(str(HERE.parent / "chromium"))
@@ -151,6 +152,46 @@ def test_feedback():
     return f"{figures['shown']} of {figures['sent']} frames shown"
 
 
+# The page of a browser that does not offer abs-send-time.
+WITHOUT_SEND_TIME = """{
+  const set = RTCPeerConnection.prototype.setLocalDescription;
+  RTCPeerConnection.prototype.setLocalDescription = async function () {
+    const { sdp } = await this.createOffer();
+    return set.call(this, { type: "offer", sdp: sdp.replace(/a=extmap:\\d+ \\S+abs-send-time\\r\\n/g, "") });
+  };
+}"""
+
+
+def offered(script="", narrow=500, wide=3000):
+    """What a publisher with REMB sends behind a link of 500 kbit/s and then of 3,000, with a queue of 300 ms: for each rate the kbit/s that
+    come to the link, the wait of 95 % of the packets in ms, how many packets are dropped, and the freezes of a viewer that has another
+    link. The first 7 s and 10 s do not count."""
+    with real_time(), Server("--feedback", "remb") as it:
+        link, found = Narrow([(22, 1000 * narrow), (60, 1000 * wide)], 0.3, narrow=0), []
+        publisher_of(it, script=link.to_server(it.udp) + script)
+        viewer = viewer_of(it)
+        for begin, end in ((7, 22), (32, 40)):
+            time.sleep(max(0, link.began + begin - time.monotonic()))
+            freezes = viewer.statistic("watch")["freezeCount"]
+            time.sleep(max(0, link.began + end - time.monotonic()))
+            noted = [each for each in link.noted if begin <= each[0] - link.began < end]
+            waits = sorted(1000 * wait for _, wait, _ in noted if wait is not None)
+            found.append((sum(size for *_, size in noted) * 8 / 1000 / (end - begin), waits[int(0.95 * len(waits))], sum(wait is None for _, wait, _ in noted),
+                          viewer.statistic("watch")["freezeCount"] - freezes))
+        link.stopped = True
+    return found
+
+
+def test_offer():
+    """A publisher with REMB sends what its link carries, and more when the link carries more: with abs-send-time, and by RTP times."""
+    said = []
+    for name, script in (("abs-send-time", ""), ("RTP times", WITHOUT_SEND_TIME)):
+        (sent, queue, dropped, freezes), (later, *_) = offered(script)
+        said.append(f"by {name} {sent:.0f} kbit/s, queue {queue:.0f} ms, {dropped} dropped, {freezes} freezes, then {later:.0f} kbit/s")
+        require(300 < sent <= 505 and queue < 150 and dropped == 0 and freezes <= 1 and later > 1.08 * sent, said[-1])
+    return "; ".join(said)
+
+
 def test_firefox(publisher, viewer, codec, loss, seconds=8):
     """A call with Firefox on one side or on both."""
     if not firefox():
@@ -242,6 +283,19 @@ def test_steps():
     found = measure({"steps": ((3000, 300, 1000), 300, 0)}, step=12)
     figures, it = seen(found, "steps"), found["steps"][1]
     require(it["longest"] < 600 and it["freezes"] <= 2 and it["queue"][0] < 100 and it["best"] >= 60 and it["switches"] >= 3, figures)
+    return figures
+
+
+def test_spatial():
+    """Viewers of a publisher with spatial layers of VP9 (L3T3_KEY, of which Chromium sends two for 640 x 480): one behind 300 kbit/s
+    gets the lower layer; one behind 3,000, 300 and 1,000 kbit/s, 12 s each, falls to it and rises again."""
+    found = measure({"whole": ((300,), 300, 0), "steps": ((3000, 300, 1000), 300, 0)}, step=12, codec="VP9")
+    figures = "; ".join(f"{name}: {seen(found, name)}" for name in found)
+    for name, (viewer, it) in found.items():
+        widths = [width for at, width in it["times"] if at > viewer.link.began + 5]
+        fell = [width for at, width in it["times"] if 20 < at - viewer.link.began < 24]
+        require(it["frames"] > 300 and it["longest"] < 600 and it["freezes"] <= 2 and it["queue"][0] < 100 and it["best"] >= 60, figures)
+        require(set(fell) == {320} and set(widths) == ({320} if name == "whole" else {320, 640}) and widths[-1] == (320 if name == "whole" else 640), widths)
     return figures
 
 
@@ -714,7 +768,7 @@ TESTS = {f"{codec}-{loss}": (lambda codec=codec, loss=loss: test_call(codec, los
 TESTS |= {f"firefox-{name}": (lambda words=words: test_firefox(*words)) for name, words in {
     "publishes": (Firefox, Chromium, "VP8", 0), "watches": (Chromium, Firefox, "VP8", 0), "VP8-5": (Firefox, Firefox, "VP8", 5),
     "VP9-2": (Firefox, Firefox, "VP9", 2), "AV1-2": (Firefox, Firefox, "AV1", 2)}.items()}
-TESTS |= {name: globals()[f"test_{name}"] for name in ("refusals", "sessions", "token", "reused", "full", "protect", "disk", "phone", "picture", "reordered", "viewers", "conference", "feedback", "layers", "fits", "narrow", "steps", "longer", "reload",
+TESTS |= {name: globals()[f"test_{name}"] for name in ("refusals", "sessions", "token", "reused", "full", "protect", "disk", "phone", "picture", "reordered", "viewers", "conference", "feedback", "offer", "layers", "fits", "narrow", "steps", "spatial", "longer", "reload",
                                                       "left", "restart", "blocked", "taken", "camera", "elsewhere", "aiortc", "damaged", "hostile")}
 
 

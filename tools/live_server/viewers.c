@@ -52,6 +52,7 @@ const char *viewer_begin(peer *it, peer *of) {
     for (int kind = 0; kind < KINDS; kind++) {
         outgoing *to = &it->viewer[kind];
         to->track = to->wanted = kind == VIDEO && !it->path->follows ? last_track(of) : kind;
+        if (!it->path->follows) to->filter.wanted = MOST_SPATIAL - 1;
         if (!begin_stream(to, &it->media[kind])) return "Out of memory.\n";
     }
     return NULL;
@@ -60,6 +61,28 @@ const char *viewer_begin(peer *it, peer *of) {
 uint32_t viewer_ssrc(const peer *it, int kind) { return it->viewer[kind].ssrc; }
 
 /* ---- packets: each waits on the path until it may leave, and is written then ---- */
+
+/* The layers of a packet of video. */
+typedef struct {
+    bool layered; /* the packet names a temporal layer */
+    bool first;   /* it is the first one of a picture */
+    cpay_temporal_layer_info temporal;
+    cpay_spatial_place_info spatial; /* of VP9 */
+} place;
+
+static place place_of(cpay_codec codec, const uint8_t *payload, size_t size) {
+    place it = {0};
+    it.layered = (codec == CPAY_VP8 || codec == CPAY_VP9) && !cpay_temporal_layer(codec, payload, size, &it.temporal);
+    if (codec == CPAY_VP8) it.first = size > 0 && (payload[0] & 0x1f) == 0x10; /* S, and partition 0 */
+    if (codec == CPAY_VP9 && !cpay_vp9_spatial_place(payload, size, &it.spatial)) it.first = it.spatial.begins && it.spatial.layer == 0;
+    return it;
+}
+
+static int spatial_layer(cpay_codec codec, const uint8_t *datagram, size_t size) {
+    cpay_rtp_info info = {0};
+    if (codec != CPAY_VP9 || cpay_rtp_read(datagram, size, &info)) return 0;
+    return place_of(codec, datagram + info.payload_at, info.payload_len).spatial.layer;
+}
 
 /* Wraps a packet of audio in RED, with the one before it (RFC 2198). Returns the new size. */
 static size_t wrap(outgoing *to, uint8_t red_payload_type, uint8_t *packet, size_t size) {
@@ -94,6 +117,8 @@ static const uint8_t *packet_of(peer *from, const waiting *one, uint8_t *room, s
     return gone ? NULL : room;
 }
 
+static uint8_t *note_of(outgoing *to, uint16_t number) { return &to->notes[number % MOST_NOTED]; }
+
 /* Writes a packet of the publisher. Returns its size. */
 static size_t write_packet(peer *it, peer *from, const waiting *one, uint8_t *out, size_t room) {
     int kind = kind_of(one->track);
@@ -107,6 +132,8 @@ static size_t write_packet(peer *it, peer *from, const waiting *one, uint8_t *ou
         return 0;
     bool in_red = it->media[kind].red_payload_type && !to->without_red;
     if (in_red) size = wrap(to, it->media[kind].red_payload_type, out, size);
+    if (one->what == LAST_PACKET) out[1] |= 0x80;
+    if (kind == VIDEO) *note_of(to, AV_RB16(out + 2)) = (uint8_t)(spatial_layer(it->media[VIDEO].codec, datagram, datagram_len) | (out[1] & MARKED));
     if (kind == VIDEO && (size >= LARGE || to->newest_len < LARGE || (uint16_t)(AV_RB16(out + 2) - to->newest) > 128)) {
         to->newest = AV_RB16(out + 2);
         to->newest_len = size;
@@ -114,18 +141,20 @@ static size_t write_packet(peer *it, peer *from, const waiting *one, uint8_t *ou
     return size;
 }
 
-/* Writes a packet again that was sent. Returns its size, which is written also if there is no room. */
+/* Writes a packet again that was sent. Returns its size, which is written also if there is no room. The store of the source has
+ * the packet with another marker. */
 static size_t write_again(peer *it, peer *from, const waiting *one, uint8_t *out, size_t room) {
     outgoing *to = &it->viewer[one->track];
     size_t size = 0;
     cpay_resent resent = CPAY_RESENT_NOT_KEPT;
     cpay_status status =
         cpay_forwarder_resend(&to->forwarder, &publisher_source(from, to->track)->store, one->number, out, room, &size, &resent);
+    if (status == CPAY_OK && size > 0 && one->track == VIDEO) out[1] = (uint8_t)((out[1] & ~MARKED) | (*note_of(to, one->number) & MARKED));
     return status == CPAY_OK || status == CPAY_TOO_SMALL ? size : 0;
 }
 
 size_t viewer_write(peer *it, peer *from, const waiting *one, uint8_t *out, size_t room) {
-    if (one->what == PACKET) return write_packet(it, from, one, out, room);
+    if (one->what == PACKET || one->what == LAST_PACKET) return write_packet(it, from, one, out, room);
     if (one->what == AGAIN) return write_again(it, from, one, out, room);
     const uint8_t *padding = filled_under(&it->viewer[one->track], one->number);
     if (!padding) return 0;
@@ -156,13 +185,25 @@ void viewer_stops(peer *it) {
     if (it->media[VIDEO].used) (void)!cpay_forwarder_mute(&it->viewer[VIDEO].forwarder);
 }
 
-/* Goes over to layers. What waits of a larger size is not sent any more: the path would carry it too late. */
-void viewer_goes_to(peer *it, int track, int temporal, bool red) {
+/* Goes over to layers. What waits of a larger size is not sent any more: the path would carry it too late. Of spatial layers the
+ * picture that has begun to leave stays whole. */
+bool viewer_goes_to(peer *it, peer *from, int track, layer up_to, bool red) {
     outgoing *to = &it->viewer[VIDEO];
     it->viewer[AUDIO].without_red = !red;
-    to->temporal = temporal;
+    to->temporal = up_to.temporal;
+    to->filter.wanted = (uint8_t)up_to.spatial;
     to->wanted = track;
     if (to->begun && track < to->track) viewer_stops(it);
+    if (!to->begun || it->media[VIDEO].codec != CPAY_VP9 || to->filter.wanted >= to->filter.kept) return false;
+    cpay_spatial_filter_state thinner = {.kept = UINT8_MAX, .wanted = to->filter.wanted}; /* the picture in front stays as it is */
+    if (path_thin(it, from, &thinner)) to->filter = thinner;
+    return true;
+}
+
+int viewer_size(const peer *it, const peer *from) {
+    const outgoing *to = &it->viewer[VIDEO];
+    int size = from->layers_len > 1 ? to->track - VIDEO : to->filter.kept;
+    return size < publisher_sizes(from) ? size : publisher_sizes(from) - 1;
 }
 
 /* Whether a packet is the first of a keyframe with which the viewer goes over to another source. */
@@ -181,16 +222,24 @@ static bool is_current(outgoing *to, int track, const cpay_rtp_info *info) {
     return true;
 }
 
-/* Whether a packet of video is left out: all packets of a picture, or none. More layers begin with a picture that refers to
- * layers below alone. */
-static bool is_left_out(outgoing *to, cpay_codec codec, const cpay_rtp_info *info, const uint8_t *datagram) {
-    cpay_temporal_layer_info layer = {0};
-    const uint8_t *payload = datagram + info->payload_at;
-    if (codec != CPAY_VP8 || cpay_temporal_layer(codec, payload, info->payload_len, &layer)) return false;
-    bool first = info->payload_len > 0 && (payload[0] & 0x1f) == 0x10; /* S, and partition 0 */
-    if (first && to->layers > to->temporal) to->layers = to->temporal;
-    if (first && to->layers < to->temporal && layer.sync && layer.id == to->layers + 1) to->layers++;
-    return layer.id > to->layers;
+/* Whether the temporal layer of a packet is left out: all packets of a picture, or none. More layers begin with a keyframe, in VP8
+ * with a picture of the next layer that refers to the base layer alone, and in VP9 after a picture from which on pictures of
+ * higher layers refer to no earlier ones of their layers. */
+static bool leaves_out(outgoing *to, cpay_codec codec, const place *at) {
+    const cpay_temporal_layer_info *of = &at->temporal;
+    bool rises = at->first && to->layers < to->temporal;
+    if (!at->layered) return false;
+    if (at->first && to->layers > to->temporal) to->layers = to->temporal;
+    if (rises && codec == CPAY_VP8 && of->sync && of->id == to->layers + 1) to->layers++;
+    if (rises && codec == CPAY_VP9 && (at->spatial.intra || (of->sync && of->id <= to->layers))) to->layers = to->temporal;
+    return of->id > to->layers;
+}
+
+/* Whether a packet of video is left out. The filter moves the marker. */
+static bool is_left_out(outgoing *to, cpay_codec codec, const cpay_rtp_info *info, const place *at, bool *marker) {
+    bool left_out = leaves_out(to, codec, at);
+    if (codec != CPAY_VP9) return left_out;
+    return cpay_spatial_filter_take(&to->filter, info->sequence_number, &at->spatial, marker) == CPAY_NONE || left_out;
 }
 
 /* A packet of the publisher waits for a viewer, if the viewer is to get it. Returns whether the viewer goes over with it. */
@@ -208,13 +257,34 @@ static bool offer(peer *it, peer *from, int track, const cpay_rtp_info *info, co
         to->first = info->sequence_number;
         to->track = track;
         to->layers = to->temporal;
+        to->filter = (cpay_spatial_filter_state){.wanted = to->filter.wanted};
     }
     if (!is_current(to, track, info)) return false;
-    if (kind == VIDEO && is_left_out(to, codec, info, datagram)) path_leave_out(it, from, one);
+    place at = place_of(codec, datagram + info->payload_at, info->payload_len);
+    bool marker = info->marker, left_out = kind == VIDEO && is_left_out(to, codec, info, &at, &marker);
+    if (marker && !info->marker) one.what = LAST_PACKET;
+    if (left_out) path_leave_out(it, from, one);
     else
         path_push(it, kind == AUDIO ? CPAY_PATH_AUDIO : CPAY_PATH_MEDIA, one,
                   HEADER + info->payload_len * (kind == AUDIO ? 2 : 1));
     return began;
+}
+
+/* A packet that waited waits again, if the filter keeps it. */
+void viewer_offer_again(peer *it, peer *from, waiting one, cpay_spatial_filter_state *filter) {
+    uint8_t store[MOST_DATAGRAM];
+    size_t size = 0;
+    cpay_rtp_info info = {0};
+    const uint8_t *datagram = packet_of(from, &one, store, &size);
+    if (!datagram || cpay_rtp_read(datagram, size, &info)) return;
+    place at = place_of(CPAY_VP9, datagram + info.payload_at, info.payload_len);
+    bool marker = info.marker, out = cpay_spatial_filter_take(filter, one.number, &at.spatial, &marker) == CPAY_NONE;
+    if (out || one.what == LEFT_OUT) {
+        path_leave_out(it, from, one);
+        return;
+    }
+    if (marker && !info.marker) one.what = LAST_PACKET;
+    path_push(it, CPAY_PATH_MEDIA, one, HEADER + info.payload_len);
 }
 
 /* Packets of a keyframe that came before its first one. */
@@ -233,12 +303,11 @@ static void offer_early(peer *it, peer *from, int track, uint16_t number) {
 /* What the publisher sends is counted by its layers. */
 static void count(peer *from, int track, const cpay_rtp_info *info, const uint8_t *datagram) {
     cpay_codec codec = from->media[kind_of(track)].codec;
-    cpay_temporal_layer_info layer = {0};
     bool begins = false;
     const uint8_t *payload = datagram + info->payload_at;
     if (track != AUDIO && cpay_begins_keyframe(codec, payload, info->payload_len, &begins)) begins = false;
-    bool layered = codec == CPAY_VP8 && !cpay_temporal_layer(codec, payload, info->payload_len, &layer);
-    publisher_count(from, track, info, layered ? layer.id : 0, begins);
+    place at = place_of(codec, payload, info->payload_len);
+    publisher_count(from, track, info, (layer){at.spatial.layer, at.layered ? at.temporal.id : 0}, begins);
 }
 
 bool viewers_forward(peer *from, int track, const uint8_t *datagram, size_t size) {
@@ -260,6 +329,14 @@ bool viewers_forward(peer *from, int track, const uint8_t *datagram, size_t size
 
 /* ---- RTCP of a viewer ---- */
 
+/* A picture lacks a packet of a spatial layer that the viewer does not get any more. Browsers wait for it, and show no later
+ * picture: the viewer begins with a keyframe again, and nothing before it is sent again. */
+static void begins_again(peer *it) {
+    outgoing *to = &it->viewer[VIDEO];
+    memset(to->notes, BEFORE, sizeof to->notes);
+    viewer_stops(it);
+}
+
 void viewer_resend(peer *it, peer *from, int kind, uint16_t number) {
     outgoing *to = &it->viewer[kind];
     bool padding = filled_under(to, number); /* the packet that was left out is not to come in its place */
@@ -267,7 +344,9 @@ void viewer_resend(peer *it, peer *from, int kind, uint16_t number) {
     size_t size = padding ? HEADER + 1 : write_again(it, from, &one, NULL, 0);
     to->not_kept += size == 0;
     if (size == 0) return;
-    if (path_may_resend(it, number, size)) path_push(it, CPAY_PATH_RESENT, one, size);
+    uint8_t note = kind == VIDEO && !padding ? *note_of(to, number) & (uint8_t)~MARKED : 0;
+    if (note < BEFORE && note > to->filter.wanted) begins_again(it);
+    if (note <= to->filter.wanted && path_may_resend(it, number, size)) path_push(it, CPAY_PATH_RESENT, one, size);
     else to->refused++;
 }
 
@@ -329,6 +408,7 @@ static void tick_stream(peer *it, peer *from, int kind, uint64_t now) {
     if (kind == VIDEO && to->wanted > last_track(from)) to->wanted = last_track(from); /* the next publisher has fewer layers */
     bool gets = cpay_forwarder_source(&to->forwarder, &source) == CPAY_OK;
     bool waits = !to->begun || to->track != to->wanted || to->source != publisher_source(from, to->wanted)->ssrc;
+    if (it->media[kind].codec == CPAY_VP9) waits |= to->filter.kept < to->filter.wanted;
     if (kind == VIDEO && waits) publisher_wants_keyframe(from, to->wanted);
     bool same = gets && source == publisher_source(from, to->track)->ssrc;
     if (same && now - to->report_sent >= REPORT_INTERVAL && publisher_clock(from, to->track, &clock))
@@ -343,8 +423,8 @@ void viewer_tick(peer *it, uint64_t now) {
 
 /* ---- the viewer's wishes, and its counts ---- */
 
-/* `T0` to `T3`: the highest temporal layer. A RID: this size. `fits`: the size that fits the path; `fits RID`: at most this one.
- */
+/* `T0` to `T3`: the highest temporal layer. A RID, or S0 to S2: this size. `fits`: the size that fits the path; `fits RID`: at most
+ * this one. */
 bool viewer_wants_layer(peer *it, const char *name) {
     const peer *from = peer_publisher(it->name);
     wishes *wish = it->viewer ? &it->path->wishes : NULL;
@@ -355,13 +435,13 @@ bool viewer_wants_layer(peer *it, const char *name) {
         return true;
     }
     if (fits && !name[4]) {
-        wish->least = VIDEO, wish->most = TRACKS - 1;
+        wish->least = 0, wish->most = MOST_SIZES - 1;
         return true;
     }
-    for (int i = 0; from && i < from->layers_len; i++) {
-        if (strcmp(from->layers[i], fits ? name + 5 : name)) continue;
-        wish->most = VIDEO + i;
-        wish->least = fits ? VIDEO : wish->most;
+    for (int i = 0; from && i < publisher_sizes(from); i++) {
+        if (!*publisher_size_name(from, i) || strcmp(publisher_size_name(from, i), fits ? name + 5 : name)) continue;
+        wish->most = i;
+        wish->least = fits ? 0 : i;
         return true;
     }
     return false;
@@ -384,12 +464,11 @@ void viewer_stats(peer *it, FILE *to) {
     fputs("\"streams\":[", to);
     for (int kind = 0; kind < KINDS; kind++) {
         outgoing *of = &it->viewer[kind];
-        bool layered = kind == VIDEO && from && from->layers_len > 1;
         cpay_forwarder_counts_info counts = {0};
         if (!it->media[kind].used || cpay_forwarder_counts(&of->forwarder, &counts)) continue;
         fputs(comma, to);
         comma = ",";
-        stats_stream(to, kind, &it->media[kind], layered ? from->layers[of->track - VIDEO] : "");
+        stats_stream(to, kind, &it->media[kind], kind == VIDEO && from ? publisher_size_name(from, viewer_size(it, from)) : "");
         fprintf(to,
                 COUNT("packets") COUNT("bytes") COUNT("resent") COUNT("leftOut") COUNT("filled") COUNT("switches")
                     COUNT("requested") COUNT("refused") COUNT("notKept") COUNT("keyframesRequested")

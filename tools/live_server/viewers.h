@@ -7,14 +7,17 @@
 enum {
     ALL_LAYERS = 3, /* more than the highest temporal layer of VP8 that browsers send */
     HEADER = 12,    /* bytes of an RTP header without extension */
-    MOST_CHOICES = 3 + 2 * (MOST_LAYERS - 1) + 1,
+    MOST_CHOICES = 3 + 2 * (MOST_SIZES - 1) + 1,
     MOST_FILLED = 64,  /* packets of padding that are kept for requests */
     MOST_LEFT = 1024,  /* packets that left of which a report may come */
+    MOST_NOTED = 4096, /* numbers of a viewer's stream that are noted: more than a store has */
+    MARKED = 0x80, BEFORE = 0x40, /* in a note: with the marker; before the viewer began again */
     MOST_ORDERED = 512 /* packets of video that wait for a viewer, those that are left out among them */
 };
 
-/* What waits for a viewer: the id that the path has of it. */
-typedef enum { PACKET, LEFT_OUT, AGAIN, FILLED } waiting_kind;
+/* What waits for a viewer: the id that the path has of it. LAST_PACKET: a packet that gets the marker, since the picture of the
+ * viewer ends with it. */
+typedef enum { PACKET, LAST_PACKET, LEFT_OUT, AGAIN, FILLED } waiting_kind;
 typedef struct {
     uint8_t what, track; /* of the publisher, or with AGAIN and FILLED of the viewer: AUDIO or VIDEO */
     uint16_t number;     /* of the source, or with AGAIN and FILLED of the viewer's stream */
@@ -32,6 +35,8 @@ struct outgoing {
     uint16_t first;       /* no packet before this number of the source is sent */
     bool without_red;     /* the path has no room for RED */
     int temporal, layers; /* the highest temporal layer that it is to get, and that of the picture that it gets now */
+    cpay_spatial_filter_state filter; /* of VP9 */
+    uint8_t notes[MOST_NOTED]; /* by number: the spatial layer of a packet that left, and MARKED or BEFORE */
     uint16_t newest;      /* a number that was sent lately, of a large packet */
     size_t newest_len;    /* its bytes; 0: there is none */
     uint64_t requested, refused, not_kept, keyframes_wanted;
@@ -51,7 +56,7 @@ struct outgoing {
 
 /* What a person wishes. */
 typedef struct {
-    int least, most; /* tracks of video: both are the same if the person chose a size */
+    int least, most; /* sizes: both are the same if the person chose one */
     int temporal;    /* the highest temporal layer */
 } wishes;
 
@@ -88,13 +93,16 @@ size_t viewer_write(peer *it, peer *from, const waiting *one, uint8_t *out, size
 void viewer_leave_out(peer *it, peer *from, const waiting *one);
 void viewer_resend(peer *it, peer *from, int kind, uint16_t number);
 void viewer_stops(peer *it); /* its video goes on with the next keyframe */
-void viewer_goes_to(peer *it, int track, int temporal, bool red);
+bool viewer_goes_to(peer *it, peer *from, int track, layer up_to, bool red); /* whether it falls to a lower spatial layer */
+void viewer_offer_again(peer *it, peer *from, waiting one, cpay_spatial_filter_state *filter);
+int viewer_size(const peer *it, const peer *from); /* that it gets now */
 
 /* path.c */
 bool path_begin(peer *it);
 void path_push(peer *it, cpay_path_kind kind, waiting one, size_t size);
 void path_leave_out(peer *it, peer *from, waiting one); /* in its place among the packets of video */
 void path_remove_video(peer *it);
+bool path_thin(peer *it, peer *from, cpay_spatial_filter_state *filter); /* what waits passes the filter; false: no picture begins */
 bool path_may_resend(peer *it, uint16_t number, size_t size);
 void path_hear(peer *it, peer *from, const uint8_t *rtcp, size_t size);
 void path_fill(peer *it, uint32_t bytes);

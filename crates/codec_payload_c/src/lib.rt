@@ -25,6 +25,7 @@ mod packetizer;
 mod path;
 mod path_limit;
 mod path_report;
+mod rate_offer;
 mod receiver;
 mod receiver_units;
 mod red;

@@ -44,7 +44,7 @@ abbrev pub OnFec : Option PathObject → (FecHeld → FecHeld → Type 0) → Op
 OnFec (Some (objects.FecReceiver r)) Does after = StaysFec (Does (held_of r.value)) after
 OnFec _ Does after = Unit {0}
 
--- the same for the rate that a publisher is told
+-- the same for the rate that is offered to a publisher
 abbrev pub StaysOffer : (Offer → Type 0) → Option PathObject → Type 0
 StaysOffer Done (Some (objects.RateOffer s)) = Done s.value
 StaysOffer Done _ = ⊥

@@ -1,4 +1,4 @@
--- The calls on the rate that a publisher is told.
+-- The calls on the rate that is offered to a publisher.
 use Rattle.std.specs.Prelude.{◌≡◌, ℕ, Option, Some, None}
 use Rattle.codec_payload_bandwidth_offer.specs.Offers.{Offer, after_arrival, after_due, after_lost, clock_with, micros_of, new_offer, rate_due}
 use Rattle.codec_payload_bandwidth_offer.specs.declared.offer.OfferSettings.{OfferSettings}
@@ -33,10 +33,11 @@ LosesPacket r status s = (status ≡ 0) × (s ≡ after_lost r)
 abbrev pub WantsRate : (wants : ℕ) → Offer → ℕ → Offer → Type 0
 WantsRate wants r status s = (status ≡ 0) × (s ≡ record r { wants = wants })
 
--- Status 0: the rate to tell. Status 32: none is due
+-- Status 0: the rate to offer. Status 32: none is due
 abbrev pub TellsRate : Option ℕ → ℕ → (before after : ℕ) → Type 0
 TellsRate (Some rate) status before after = (status ≡ 0) × (after ≡ rate)
 TellsRate None status before after = (status ≡ 32) × (after ≡ before)
 
-abbrev pub TakesRate : (now round_trip : ℕ) → Offer → ℕ → (before after : ℕ) → Offer → Type 0
-TakesRate now round_trip r status before after s = TellsRate (rate_due now round_trip r) status before after × (s ≡ after_due now round_trip r)
+pub record TakesRate (now round_trip : ℕ) (r : Offer) (status before after : ℕ) (s : Offer) : Type 0 where
+  pub tells : TellsRate (rate_due now round_trip r) status before after
+  pub leaves : s ≡ after_due now round_trip r

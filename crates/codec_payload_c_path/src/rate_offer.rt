@@ -1,4 +1,4 @@
-//! The rate that a publisher is told.
+//! The rate that is offered to a publisher.
 
 ghost use Rattle.std.specs.Prelude.{◌≡◌, ◌≢◌};
 ghost use Rattle.codec_payload_bandwidth_offer.specs.Offers.{after_arrival, clock_with, micros_of, new_offer};
@@ -8,7 +8,7 @@ use crate::status;
 use codec_payload_bandwidth_offer::offer::{OfferSettings, RateOffer};
 use codec_payload_base::wire::Ticks;
 
-/// How a publisher is told a rate.
+/// How a rate is offered to a publisher.
 #[repr(C)]
 #[derive(Clone, Copy)]
 pub struct RateOfferSettings {
@@ -18,7 +18,7 @@ pub struct RateOfferSettings {
     pub least: u64,
     /// No estimate is above this rate.
     pub most: u64,
-    /// No rate that is told is above this one.
+    /// The rate that the caller wants: no offer is above it.
     pub wants: u64,
 }
 
@@ -68,7 +68,7 @@ pub fn note_arrival_by(offer: &mut RateOffer, now: u64, sent: u64, size: u32)
     offer.arrived_by(Ticks(now), sent, size);
 }
 
-/// Writes the rate to tell the publisher, if one is due.
+/// Writes the rate to offer to the publisher, if one is due.
 pub fn take_rate(offer: &mut RateOffer, now: u64, round_trip: u64, rate: &mut u64) -> u32
     ensures takes { TakesRate now round_trip offer.old result rate.old rate.new offer.new }
     ensures unchanged { result ≢ 0 → rate.new ≡ rate.old }
