@@ -32,14 +32,14 @@
  * comment says otherwise.
  *
  * HANDLES. A packetizer, a depacketizer, a buffer, a RED sender, a sender, a history, a forwarder, a receiver, an adaptive
- * wait, a counter of freezes, a transport reporter, the sent packets of a transport, a path, a resend limit, an offer of a rate, a
- * packet store, a receiver, a port and a sender of FEC, and a session each live in a handle: a struct of that type in your own
- * memory. Initialise it with CPAY_INIT, create the object by the call named *_new, and end with the call named *_free, which leaves
- * the handle empty. You may free an empty handle. Other calls on an empty handle return CPAY_EMPTY; calls on a handle of another
- * type, as after a cast, return CPAY_OTHER_KIND. Exception: a path, a resend limit, an offer of a rate, a packet store and the three
- * of FEC recognise each other alone; never cast one to a type other than these seven, or a handle of another type to one of them.
- * Never write into a handle. Never copy a handle in use: the library cannot detect that another copy was freed. You may move it in
- * memory if you forget the old place.
+ * wait, a counter of freezes, a transport reporter, the sent packets of a transport, a path, a resend limit, an offer of a
+ * rate, a packet store, a receiver, a port and a sender of FEC, and a session each live in a handle: a struct of that type in
+ * your own memory. Initialise it with CPAY_INIT, create the object by the call named *_new, and end with the call named *_free,
+ * which leaves the handle empty. You may free an empty handle. Other calls on an empty handle return CPAY_EMPTY; calls on a
+ * handle of another type, as after a cast, return CPAY_OTHER_KIND. Exception: a path, a resend limit, an offer of a rate, a
+ * packet store and the three of FEC recognise each other alone; never cast one to a type other than these seven, or a handle of
+ * another type to one of them. Never write into a handle. Never copy a handle in use: the library cannot detect that another
+ * copy was freed. You may move it in memory if you forget the old place.
  *
  * MEMORY. The library allocates with the program's malloc and realloc and releases with free, only in calls marked [m]. These
  * functions must belong to one allocator. Each block must be aligned for the type stored in it, at most 8 bytes, as in glibc, musl,
