@@ -1585,7 +1585,7 @@ typedef struct {
 CPAY_CHECKED cpay_status cpay_fec_read(const uint8_t *fec, size_t fec_len, cpay_fec_info *info);
 
 /** Creates a store for the latest 512 packets of one stream in an empty handle. `bytes`: how much memory they may take in all;
- * a packet that is larger than the 512th part of it is not kept. Allocates 12 kB. [m] */
+ * a packet that is larger than the 512th part of it is not kept. Allocates 16 kB. [m] */
 CPAY_CHECKED cpay_status cpay_packet_store_new(cpay_packet_store *store, size_t bytes);
 
 /** Keeps a copy of a packet of the stream: a whole RTP packet before RED, at its sequence number modulo 512. Pass each one
@@ -1613,7 +1613,7 @@ typedef struct {
 } cpay_fec_receiver_settings;
 
 /** Creates a receiver that rebuilds lost packets of one stream, in an empty handle. It keeps the latest 512 packets of media and 64
- * of FEC: at most 9/8 of `bytes` and 16 kB. Allocates 12 kB. [m] */
+ * of FEC: at most 9/8 of `bytes` and 20 kB. Allocates 16 kB. [m] */
 CPAY_CHECKED cpay_status cpay_fec_receiver_new(cpay_fec_receiver *receiver, const cpay_fec_receiver_settings *settings);
 
 /** Takes a datagram of the stream as it came: media or FEC, in RED with one block or without RED. Others are ignored. Pass no

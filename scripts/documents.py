@@ -128,6 +128,7 @@ RUN_ELSEWHERE = {
     "tools/eraser/erase.py": ("scripts/rust.sh", "tools/eraser/erase.py"),
     "tools/plain_mutants.py": ("scripts/rust.sh", "tools/plain_mutants.py"),
     "cd tools/models": ("scripts/rust.sh", "tools/models/target/release/models"),
+    "cd tools/paths": ("scripts/rust.sh", "tools/paths/target/release/paths"),
     "tools/eraser/plants.py": ("scripts/rust.sh", "tools/eraser/plants.py"),
     "tools/rtp_record/install.sh": ("scripts/test.sh", "tools/rtp_record/install.sh"),
     "tools/rtp_record/rtp_record": ("scripts/test.sh", "runs tools/rtp_record/test.sh"),

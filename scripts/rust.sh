@@ -12,6 +12,7 @@
 # - The eraser refuses each plant of tools/eraser/plants.py. A test or a model notices each of tools/plain_mutants.py, and the tests that
 #   scripts/try.sh chooses notice a wrong retry time.
 # - The models of tools/models answer as the library does, for 20 seconds each.
+# - Viewers behind the simulated links of tools/paths see what is wanted, and docs/use/BANDWIDTH.md has their table.
 # - The package builds by itself, with each test and example in it, and each example ends well; docs/use/LIMITS.md and
 #   docs/use/FEEDBACK.md have the tables that examples print.
 # - No pop of a buffer takes more than 2 microseconds if packets that are no frame lie before the next frame (tools/speed).
@@ -118,6 +119,22 @@ models() {
     done
 }
 
+# Viewers behind simulated links: what is wanted of them, and the table of a page.
+paths() {
+    step cargo fmt --check --manifest-path "$root/tools/paths/Cargo.toml"
+    step cargo clippy --quiet --all-targets --manifest-path "$root/tools/paths/Cargo.toml" -- -D warnings
+    step cargo build --quiet --release --manifest-path "$root/tools/paths/Cargo.toml"
+    step "$root/tools/paths/target/release/paths" --check
+    cat "$work/log"
+    step "$root/tools/paths/target/release/paths" 10
+    while read -r row; do
+        grep -qxF -- "$row" "$root/docs/use/BANDWIDTH.md" || {
+            echo "rust: docs/use/BANDWIDTH.md lacks this row of tools/paths: $row"
+            exit 1
+        }
+    done <"$work/log"
+}
+
 mutants() {
     step "$root/tools/plain_mutants.py"
 }
@@ -150,9 +167,9 @@ fi
 # The parts read what the eraser writes, so the eraser comes before them. In scripts/try.sh it then finds nothing to write.
 step "$root/tools/eraser/erase.py" --check
 if [ "$how" = quick ]; then
-    side_by_side crate lines models speed
+    side_by_side crate lines models paths speed
 else
-    side_by_side crate plants mutants fuzzing lines models extras speed
+    side_by_side crate plants mutants fuzzing lines models paths extras speed
 fi
 : >"$work/log"
 [ "$how" = beside ] || timed

@@ -1,6 +1,6 @@
 //! The receiving side of a call: all streams of a port, by the session description of the sender. The session requests missing
 //! packets and keyframes, and reports losses each second and arrivals each 100 ms; this program sends its packets, and prints a line for
-//! each event. If the description has `red` and `ulpfec` of video, a port with FEC stands in front of the session.
+//! each event, that of a unit with the time in milliseconds. If the description has `red` and `ulpfec` of video, a port with FEC stands in front of the session.
 //! `tools/chromium/chromium_peer.py` runs it against Chromium:
 //!
 //! ```sh
@@ -98,7 +98,7 @@ impl Peer {
                     for byte in unit.bytes {
                         write!(out, "{byte:02x}")?;
                     }
-                    writeln!(out)?;
+                    writeln!(out, " {}", now.0)?;
                 }
                 Event::Unit { unit: Err(e), .. } => return Err(e.into()),
                 Event::Refused { fault, .. } => writeln!(out, "fault {fault}")?,

@@ -114,6 +114,7 @@ class Unit:
     decodable: bool
     keyframe: bool
     data: bytes
+    at: int  # when it was released, in ms
 
 
 # ---- the call ----
@@ -204,8 +205,8 @@ def frame_of(line):
 
 def unit_of(line):
     """A line of the program."""
-    _, ssrc, payload_type, at, decodable, keyframe, data = line.rstrip("\n").split(" ")
-    return Unit(int(ssrc), int(payload_type), int(at), decodable == "1", keyframe == "1", bytes.fromhex(data))
+    _, ssrc, payload_type, time, decodable, keyframe, data, at = line.rstrip("\n").split(" ")
+    return Unit(int(ssrc), int(payload_type), int(time), decodable == "1", keyframe == "1", bytes.fromhex(data), int(at))
 
 
 class Server(http.server.ThreadingHTTPServer):
@@ -385,6 +386,7 @@ class Comparison:
                 senders[frame.ssrc, frame.payload_type].append(frame)
         for (ssrc, payload_type), frames in senders.items():
             row = Row(self.call.name, self.codecs[payload_type], self.figures(frames))
+            self.note_delays(row, frames[0])
             journal = self.call.relay.journal
             in_red = [number for number, codec in self.codecs.items() if codec == "red" and self.call.name == "fec"]
             row.counts["requested"] = sum(journal.requests[ssrc, number] for number in [payload_type, *in_red])
@@ -472,6 +474,16 @@ class Comparison:
             if row.counts[part] < SHARE_WANTED * row.counts[of]:
                 self.fault(f"{row.codec}: {row.counts[part]} of {row.counts[of]} frames: {part}")
 
+    def note_delays(self, row, first):
+        """How much later than the fastest one the decodable units of video came, by their RTP times, and how often none came."""
+        units = [unit for unit in self.units if unit.ssrc == first.ssrc and unit.decodable]
+        if first.kind not in ("key", "delta") or len(units) < 2:
+            return
+        late = [unit.at - unit.time / 90 for unit in units]
+        pauses = [after.at - before.at for before, after in zip(units, units[1:]) if after.at - before.at > PAUSE]
+        self.remarks.append(f"{self.call.name}: {row.codec}: {sum(late) / len(late) - min(late):.0f} ms of delay in the mean; "
+                            f"{len(pauses)} pauses above {PAUSE} ms, {sum(pauses) / 1000:.1f} s in all")
+
     def check_fec(self):
         """Packets are rebuilt."""
         rebuilt = [int(it) for line in self.call.lines for it in re.findall(r"^fec .*rebuilt: (\d+)", line)]
@@ -490,6 +502,8 @@ class Comparison:
             self.fault(f"{row.codec}: {shares}, and no keyframe is requested")
 
 
+# A longer time in ms without a decodable unit is a pause.
+PAUSE = 150
 # The columns of the table.
 COLUMNS = ["frames", "packets", "lost", "requested", "again", "keyframes requested", "arrived", "released", "decodable"]
 

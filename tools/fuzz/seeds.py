@@ -29,6 +29,10 @@ DESCRIPTORS = ("810001800514853abfaaa18f04304302a02a006001001b934515e082704608c0
 FEC = bytes([5, 220, 0x10, 0, 3]) + b"abc" + bytes([0x24, 0, 17, 0, 0, 0, 1, 0, 0, 0, 0, 0, 0, 0, 3, 0xc0, 0, 5, 7, 5])
 # The same in RED, for a port.
 PORT = bytes([5, 220, 0, 0x12, 0, 1, 4, 96]) + b"abc" + bytes([0x22, 0, 1, 18, 117, 0, 0, 0, 1, 0, 0, 0, 0, 0, 0, 0, 3, 0xc0, 0, 5, 7, 5])
+# For a path: a packet of media is pushed and leaves, and feedback comes, each 10 ms later, ten times.
+PATH = bytes([6, 64]) + 10 * (bytes([50, 0, 2, 4, 0xb0, 50, 2]) + bytes([50, 4, 1, 0, 0, 0]) + 64 * bytes([5]) + bytes([0, 100]))
+# A packet arrives each 10 ms, 2,621 units of abs-send-time later, ten times.
+OFFER = b"".join(bytes([50, 0]) + (place * 2621).to_bytes(3, "big") + bytes([4, 0xb0, 40]) for place in range(10))
 # Calls of a session: polls, a poll at the next deadline, and a BYE of SSRC 1.
 POLL, DEADLINE, BYE = bytes([0]), bytes([7 << 3]), bytes([10 << 3, 0, 0x80, 1, 1, 0])
 
@@ -93,6 +97,8 @@ def seeds():
         yield "descriptor", b"".join(bytes([len(it)]) + it for it in map(bytes.fromhex, stream.split()))
     yield "fec", FEC
     yield "ports", PORT
+    yield "paths", PATH
+    yield "offers", OFFER
     yield "buffer", bytes([1, 4, 0x80, 1, 0x80, 3, 0x80, 2, 0, 0, 0, 0])
 
 

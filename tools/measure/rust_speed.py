@@ -88,7 +88,7 @@ FEC = {
     ("marks", 10): ("media that 64 packets of FEC with 48 bits protect, each of which misses two", "counted", 1, 9_000),
     ("rebuild", 48): ("FEC that rebuilds one of 48 packets of 1,500 bytes", "counted", 1, 34_000),
     ("beside", 48): ("that, while 64 packets of FEC protect the same packets", "counted", 1, 43_000),
-    ("window", 512): ("the first of another window, after 512 packets of media", "counted", 1, 100_000),
+    ("window", 512): ("the first of another window, after 512 packets of media", "counted", 1, 1_500),
     ("push", 5): ("a packet is sent in RED", "counted_push", 5, 1_700),
     ("finish", 5): ("the FEC of a frame of 5 packets: two", "counted_finish", 1, 13_000),
     ("finish", 30): ("the FEC of a frame of 30 packets: ten", "counted_finish", 1, 78_000),

@@ -12,24 +12,33 @@ use std::marker::Model;
 /// How many packets are kept.
 const KEPT: usize = 512;
 
+/// A packet at its place.
+#[derive(Drop)]
+struct Slot {
+    /// How often the store had been cleared before the packet came.
+    clears: u64,
+    packet: Vec<u8>,
+}
+
 /// The latest packets of a stream, each at its number modulo 512. A packet replaces the one at its place.
 #[derive(Drop)]
 pub struct PacketStore {
     alloc: Global,
-    slots: Vec<Option<Vec<u8>>>,
+    slots: Vec<Option<Slot>>,
+    /// How often the store was cleared. A packet from before the latest time is no longer kept; its memory is freed with its place.
+    clears: u64,
     /// The largest packet that is kept, in bytes.
     largest: usize,
 }
 
 impl Model for PacketStore {
-    ghost use Rattle.std.specs.Prelude.{◌≡◌, length};
-    ghost use Rattle.codec_payload_fec.specs.Stores.{Store, slots_of};
+    ghost use Rattle.codec_payload_fec.specs.Stores.{IsStored, Store, slots_of};
 
     ghost Value = { Store };
 
-    ghost view = { λ s. record { slots = slots_of s.slots.items; largest = s.largest } };
+    ghost view = { λ s. record { slots = slots_of s.clears s.slots.items; largest = s.largest } };
 
-    ghost invariant = { λ s. length s.slots.items ≡ 512 };
+    ghost invariant = { λ s. IsStored s.clears s.slots.items };
 }
 
 /// Returns the sequence number of a packet; 0 for fewer than 4 bytes.
@@ -43,14 +52,14 @@ pub(crate) fn number_of(packet: &[u8]) -> u16
     u16::from_be_bytes([*n1, *n0])
 }
 
-/// Returns the packet at a place.
-fn slot_at(slots: &[Option<Vec<u8>>], place: usize) -> Option<&[u8]>
+/// Returns the packet at a place, if it came after the store was cleared for the latest time.
+fn slot_at(slots: &[Option<Slot>], clears: u64, place: usize) -> Option<&[u8]>
     requires { place < length slots.now }
-    ensures { option_map (λ p. p.now) result ≡ slice_index_or (slots_of slots.now) place None }
+    ensures { option_map (λ p. p.now) result ≡ slice_index_or (slots_of clears slots.now) place None }
 {
     match &slots[place] {
-        None => None,
-        Some(packet) => Some(packet.as_slice()),
+        Some(slot) if slot.clears == clears => Some(slot.packet.as_slice()),
+        _ => None,
     }
 }
 
@@ -65,10 +74,10 @@ fn matching(number: u16, packet: Option<&[u8]>) -> Option<&[u8]>
 }
 
 /// Returns 512 empty places.
-fn empty_slots(alloc: Global) -> Result<Vec<Option<Vec<u8>>>, AllocError>
+fn empty_slots(alloc: Global) -> Result<Vec<Option<Slot>>, AllocError>
     ensures { IfOk result (λ v. v.items ≡ replicate 512 None) }
 {
-    let mut slots = Vec::new(alloc);
+    let mut slots = Vec::with_capacity(alloc, KEPT)?;
     for _place in 0..KEPT {
         slots.push(None)?;
     }
@@ -76,7 +85,7 @@ fn empty_slots(alloc: Global) -> Result<Vec<Option<Vec<u8>>>, AllocError>
 }
 
 /// Empties each place.
-fn empty(slots: &mut [Option<Vec<u8>>])
+fn empty(slots: &mut [Option<Slot>])
     ensures { slots.new ≡ replicate (length slots.old) None }
 {
     for slot in slots.iter_mut() {
@@ -90,13 +99,14 @@ impl PacketStore {
     ///
     /// # Errors
     ///
-    /// Out of memory: the places alone take 12 kB.
+    /// Out of memory: the places alone take 16 kB.
     pub fn new(alloc: Global, bytes: usize) -> Result<PacketStore, AllocError>
         ensures { IfOk result (λ s. s ≡ no_packets bytes) }
     {
         Ok(PacketStore {
             alloc,
             slots: empty_slots(alloc)?,
+            clears: 0,
             largest: bytes / KEPT,
         })
     }
@@ -107,7 +117,11 @@ impl PacketStore {
     {
         matching(
             number,
-            slot_at(self.slots.as_slice(), usize::from(number) % KEPT),
+            slot_at(
+                self.slots.as_slice(),
+                self.clears,
+                usize::from(number) % KEPT,
+            ),
         )
     }
 
@@ -125,7 +139,10 @@ impl PacketStore {
         }
         let copy = Vec::from_slice(self.alloc, packet)?;
         let place = usize::from(number_of(packet)) % KEPT;
-        self.slots[place] = Some(copy);
+        self.slots[place] = Some(Slot {
+            clears: self.clears,
+            packet: copy,
+        });
         Ok(())
     }
 
@@ -138,7 +155,10 @@ impl PacketStore {
             return;
         }
         let place = usize::from(number_of(bytes)) % KEPT;
-        self.slots[place] = Some(packet);
+        self.slots[place] = Some(Slot {
+            clears: self.clears,
+            packet,
+        });
     }
 
     /// Returns the largest packet that is kept, in bytes.
@@ -148,10 +168,16 @@ impl PacketStore {
         self.largest
     }
 
-    /// Drops all packets. Does not allocate.
+    /// Drops all packets. Does not allocate. The memory of a packet is given back when another one comes to its place.
     pub fn clear(&mut self)
         ensures { self.new ≡ record self.old { slots = no_slots } }
     {
-        empty(self.slots.as_mut_slice());
+        match self.clears.checked_add(1) {
+            Some(clears) => self.clears = clears,
+            None => {
+                empty(self.slots.as_mut_slice());
+                self.clears = 0;
+            }
+        }
     }
 }

@@ -183,7 +183,7 @@ fn is_of(ssrc: u32, waiting: &Option<Rebuilt>) -> bool
 }
 
 impl FecPort {
-    /// Returns a port without streams. Does not allocate; a stream takes 12 kB when it begins.
+    /// Returns a port without streams. Does not allocate; a stream takes 16 kB when it begins.
     ///
     /// # Errors
     ///

@@ -184,7 +184,7 @@ impl FecReceiver {
     ///
     /// # Errors
     ///
-    /// Out of memory: 12 kB.
+    /// Out of memory: 16 kB.
     pub fn new(alloc: Global, settings: FecSettings) -> Result<FecReceiver, AllocError>
         ensures { IfOk result (λ s. s ≡ new_state settings) }
     {

@@ -137,7 +137,7 @@ impl FecReceiver {
     ///
     /// # Errors
     ///
-    /// Out of memory: 12 kB.
+    /// Out of memory: 16 kB.
     pub fn new(settings: FecSettings) -> Result<FecReceiver, AllocError> {
         Ok(FecReceiver {
             settings,

@@ -9,6 +9,7 @@ mod formats;
 mod input;
 mod media;
 mod packets;
+mod paths;
 mod ports;
 mod receiver;
 mod session;
@@ -19,7 +20,7 @@ use std::sync::OnceLock;
 
 type Target = fn(&mut Input);
 
-const TARGETS: [(&str, Target); 12] = [
+const TARGETS: [(&str, Target); 14] = [
     ("depacketize", formats::depacketize),
     ("units", formats::units),
     ("red", formats::red),
@@ -32,6 +33,8 @@ const TARGETS: [(&str, Target); 12] = [
     ("descriptor", descriptor::descriptor),
     ("fec", fec::fec),
     ("ports", ports::ports),
+    ("paths", paths::paths),
+    ("offers", paths::offers),
 ];
 
 fn target() -> Target {
