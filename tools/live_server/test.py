@@ -1,7 +1,7 @@
 #!/usr/bin/env python3
 """A browser without a screen publishes to ./live_server and watches from it, over a network that the server makes worse.
 
-    ./test.py                    all tests, some seven minutes; the last line counts them
+    ./test.py                    all tests, some ten minutes; the last line counts them
     ./test.py VP8-5 layers       these tests
 
 A call fails unless its viewer shows nearly all frames that the publisher sent, its recording decodes without a word and has the
