@@ -1,13 +1,12 @@
 #!/usr/bin/env python3
 """A browser without a screen publishes to ./live_server and watches from it, over a network that the server makes worse.
 
-    ./test.py                    all tests, some ten minutes; the last line counts them
-    ./test.py VP8-5 layers       these tests
+    ./test.py [TEST..]           all tests, some ten minutes, or these; the last line counts them
 
 A call fails unless its viewer shows nearly all frames that the publisher sent, its recording decodes without a word and has the
 frames that the library released, and the server ends without a message of a sanitizer. Needs chromium, ffmpeg, ffprobe and Python's
-standard library; the tests of Firefox are skipped where it is not installed. Only this machine is used. Without Chromium nothing is
-tested. measure.py has the tables and the picture of the documents, soak.py a call of an hour.
+standard library, and only this machine; Firefox is tested where it is installed. measure.py has the tables and the picture of the
+documents, soak.py a call of an hour.
 """
 
 import argparse
@@ -313,8 +312,8 @@ def test_longer():
         time.sleep(5)
         it.network(delay=40)
         time.sleep(6)
-        before = viewer.frames()
         require(gets_all(), it.streams("viewers")[0])
+        before = viewer.frames()
         time.sleep(3)
         shown, peer = viewer.frames() - before, it.stats()["viewers"][0]
     require(shown > 45, f"{shown} frames in 3 s")
