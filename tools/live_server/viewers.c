@@ -11,7 +11,8 @@ enum {
     FILLED_FOR = 5000,      /* ms: numbers come again after 65,536 packets */
     EARLY = 64,             /* packets of a keyframe that may come before its first one */
     RED_BUDGET = 1200,      /* bytes of a RED payload */
-    LARGE = 600             /* bytes of a packet that fills a trial well */
+    LARGE = 600,            /* bytes of a packet that fills a trial well */
+    BEFORE = 31             /* in place of a layer in a note: before the viewer began again */
 };
 
 /* The packet that came just now. It is in its store too. */
@@ -117,7 +118,19 @@ static const uint8_t *packet_of(peer *from, const waiting *one, uint8_t *room, s
     return gone ? NULL : room;
 }
 
-static uint8_t *note_of(outgoing *to, uint16_t number) { return &to->notes[number % MOST_NOTED]; }
+/* Notes the spatial layer and the marker of a packet of video that leaves. */
+static void note(outgoing *to, const uint8_t *packet, int layer) {
+    uint16_t number = AV_RB16(packet + 2);
+    size_t place = number % MOST_NOTED;
+    to->notes[place].number = number;
+    to->notes[place].layer = layer & 7;
+    to->notes[place].left = true;
+    to->notes[place].marked = packet[1] & 0x80;
+}
+
+static bool is_noted(const outgoing *to, uint16_t number) {
+    return to->notes[number % MOST_NOTED].left && to->notes[number % MOST_NOTED].number == number;
+}
 
 /* Writes a packet of the publisher. Returns its size. */
 static size_t write_packet(peer *it, peer *from, const waiting *one, uint8_t *out, size_t room) {
@@ -133,7 +146,7 @@ static size_t write_packet(peer *it, peer *from, const waiting *one, uint8_t *ou
     bool in_red = it->media[kind].red_payload_type && !to->without_red;
     if (in_red) size = wrap(to, it->media[kind].red_payload_type, out, size);
     if (one->what == LAST_PACKET) out[1] |= 0x80;
-    if (kind == VIDEO) *note_of(to, AV_RB16(out + 2)) = (uint8_t)(spatial_layer(it->media[VIDEO].codec, datagram, datagram_len) | (out[1] & MARKED));
+    if (kind == VIDEO) note(to, out, spatial_layer(it->media[VIDEO].codec, datagram, datagram_len));
     if (kind == VIDEO && (size >= LARGE || to->newest_len < LARGE || (uint16_t)(AV_RB16(out + 2) - to->newest) > 128)) {
         to->newest = AV_RB16(out + 2);
         to->newest_len = size;
@@ -149,7 +162,8 @@ static size_t write_again(peer *it, peer *from, const waiting *one, uint8_t *out
     cpay_resent resent = CPAY_RESENT_NOT_KEPT;
     cpay_status status =
         cpay_forwarder_resend(&to->forwarder, &publisher_source(from, to->track)->store, one->number, out, room, &size, &resent);
-    if (status == CPAY_OK && size > 0 && one->track == VIDEO) out[1] = (uint8_t)((out[1] & ~MARKED) | (*note_of(to, one->number) & MARKED));
+    if (status == CPAY_OK && size > 0 && one->track == VIDEO && is_noted(to, one->number))
+        out[1] = (uint8_t)((out[1] & 0x7f) | to->notes[one->number % MOST_NOTED].marked << 7);
     return status == CPAY_OK || status == CPAY_TOO_SMALL ? size : 0;
 }
 
@@ -329,12 +343,22 @@ bool viewers_forward(peer *from, int track, const uint8_t *datagram, size_t size
 
 /* ---- RTCP of a viewer ---- */
 
-/* A picture lacks a packet of a spatial layer that the viewer does not get any more. Browsers wait for it, and show no later
- * picture: the viewer begins with a keyframe again, and nothing before it is sent again. */
+/* The viewer begins with a keyframe again, and nothing before it is sent again. */
 static void begins_again(peer *it) {
     outgoing *to = &it->viewer[VIDEO];
-    memset(to->notes, BEFORE, sizeof to->notes);
+    for (size_t i = 0; i < MOST_NOTED; i++) to->notes[i].layer = BEFORE;
     viewer_stops(it);
+}
+
+/* Whether a packet of video is to be sent again. One of spatial layers that has not left waits, and leaves with its marker. If a
+ * picture lacks a packet of a layer that the viewer does not get any more, browsers wait for it, and show no later picture: the
+ * viewer begins again. */
+static bool is_wanted(peer *it, const peer *from, uint16_t number) {
+    outgoing *to = &it->viewer[VIDEO];
+    size_t place = number % MOST_NOTED;
+    if (!is_noted(to, number)) return from->layers_len > 1 || publisher_sizes(from) == 1;
+    if (to->notes[place].layer != BEFORE && to->notes[place].layer > to->filter.wanted) begins_again(it);
+    return to->notes[place].layer <= to->filter.wanted;
 }
 
 void viewer_resend(peer *it, peer *from, int kind, uint16_t number) {
@@ -344,9 +368,8 @@ void viewer_resend(peer *it, peer *from, int kind, uint16_t number) {
     size_t size = padding ? HEADER + 1 : write_again(it, from, &one, NULL, 0);
     to->not_kept += size == 0;
     if (size == 0) return;
-    uint8_t note = kind == VIDEO && !padding ? *note_of(to, number) & (uint8_t)~MARKED : 0;
-    if (note < BEFORE && note > to->filter.wanted) begins_again(it);
-    if (note <= to->filter.wanted && path_may_resend(it, number, size)) path_push(it, CPAY_PATH_RESENT, one, size);
+    bool refused = kind == VIDEO && !padding && !is_wanted(it, from, number);
+    if (!refused && path_may_resend(it, number, size)) path_push(it, CPAY_PATH_RESENT, one, size);
     else to->refused++;
 }
 

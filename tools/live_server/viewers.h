@@ -10,8 +10,7 @@ enum {
     MOST_CHOICES = 3 + 2 * (MOST_SIZES - 1) + 1,
     MOST_FILLED = 64,  /* packets of padding that are kept for requests */
     MOST_LEFT = 1024,  /* packets that left of which a report may come */
-    MOST_NOTED = 4096, /* numbers of a viewer's stream that are noted: more than a store has */
-    MARKED = 0x80, BEFORE = 0x40, /* in a note: with the marker; before the viewer began again */
+    MOST_NOTED = 2048, /* packets that left of which the marker is known: as many as a store has */
     MOST_ORDERED = 512 /* packets of video that wait for a viewer, those that are left out among them */
 };
 
@@ -36,7 +35,11 @@ struct outgoing {
     bool without_red;     /* the path has no room for RED */
     int temporal, layers; /* the highest temporal layer that it is to get, and that of the picture that it gets now */
     cpay_spatial_filter_state filter; /* of VP9 */
-    uint8_t notes[MOST_NOTED]; /* by number: the spatial layer of a packet that left, and MARKED or BEFORE */
+    struct {
+        uint16_t number;
+        uint8_t layer : 5; /* spatial; BEFORE: the viewer has begun again since then */
+        bool left : 1, marked : 1;
+    } notes[MOST_NOTED]; /* packets of video that left, by their numbers */
     uint16_t newest;      /* a number that was sent lately, of a large packet */
     size_t newest_len;    /* its bytes; 0: there is none */
     uint64_t requested, refused, not_kept, keyframes_wanted;
