@@ -1,4 +1,4 @@
-//! Compiles shim.c over include/codec_payload.h, and links it with the proved library.
+//! Compiles shim.c and shim_paths.c over include/codec_payload.h, and links them with the proved library.
 
 use std::env;
 use std::path::Path;
@@ -13,12 +13,14 @@ fn main() {
         assert!(ended.is_ok_and(|status| status.success()), "{words:?}");
     };
     let include = format!("-I{}", root.join("include").display());
-    let object = format!("{out}/shim.o");
     let compiler = env::var("CC").unwrap_or_else(|_| "cc".into());
-    run(&[
-        &compiler, "-std=c99", "-O2", &include, "-c", "shim.c", "-o", &object,
-    ]);
-    run(&["ar", "rcs", &format!("{out}/libtwin_shim.a"), &object]);
+    for name in ["shim", "shim_paths"] {
+        let (source, object) = (format!("{name}.c"), format!("{out}/{name}.o"));
+        run(&[
+            &compiler, "-std=c99", "-O2", &include, "-c", &source, "-o", &object,
+        ]);
+        run(&["ar", "rcs", &format!("{out}/libtwin_shim.a"), &object]);
+    }
     println!("cargo::rustc-link-search=native={out}");
     println!(
         "cargo::rustc-link-search=native={}",
@@ -28,6 +30,7 @@ fn main() {
     println!("cargo::rustc-link-lib=static=codec_payload");
     for path in [
         "shim.c",
+        "shim_paths.c",
         "../../include/codec_payload.h",
         "../../c/out/libcodec_payload.a",
     ] {

@@ -1,7 +1,7 @@
 //! The generated crate beside the proved library, in one process: each call of both answers the same.
 //!
-//! `twin COUNT` makes COUNT random sequences of calls of packetizers, depacketizers, receivers, sessions, histories and limits of
-//! waiting each; `twin FOLDER` takes the sequences of depacketizers and receivers from the fuzzer's corpora, FOLDER/depacketize and FOLDER/receiver. `twin
+//! `twin COUNT` makes COUNT random sequences of calls of packetizers, depacketizers, receivers, sessions, histories, limits of
+//! waiting, paths and offers each; `twin FOLDER` takes the sequences of depacketizers and receivers from the fuzzer's corpora, FOLDER/depacketize and FOLDER/receiver. `twin
 //! changed COUNT` prints what the crate reads of COUNT changed copies of the session description on its standard input, as
 //! c/tests/descriptions.c does.
 
@@ -10,6 +10,7 @@ mod descriptions;
 mod histories;
 #[path = "../../fuzz/src/input.rs"]
 mod input;
+mod paths;
 mod proved;
 mod proved_history;
 mod proved_session;
@@ -25,6 +26,7 @@ use codec_payload::{
 };
 use histories::histories;
 use input::Input;
+use paths::{offers, paths};
 use random::random_bytes;
 use sessions::sessions;
 use std::collections::HashMap;
@@ -388,13 +390,15 @@ fn main() {
     if word == "changed" {
         return print_changed(&words.next().expect("a count"));
     }
-    let sequences: [(&str, Sequence); 6] = [
+    let sequences: [(&str, Sequence); 8] = [
         ("packetize", packetize),
         ("depacketize", depacketize),
         ("receiver", receive),
         ("session", sessions),
         ("history", histories),
         ("wait", waits),
+        ("path", paths),
+        ("offer", offers),
     ];
     let mut calls = 0;
     for (name, sequence) in sequences {
