@@ -477,7 +477,7 @@ class Comparison:
     def note_delays(self, row, first):
         """How much later than the fastest one the decodable units of video came, by their RTP times, and how often none came."""
         units = [unit for unit in self.units if unit.ssrc == first.ssrc and unit.decodable]
-        if first.kind not in ("key", "delta") or len(units) < 2:
+        if first.kind not in ("key", "delta") or len(units) < 2 or self.call.relay.restart:
             return
         late = [unit.at - unit.time / 90 for unit in units]
         pauses = [after.at - before.at for before, after in zip(units, units[1:]) if after.at - before.at > PAUSE]
