@@ -383,8 +383,8 @@ def receives(block):
     """Whether a block receives datagrams. A receiver of FEC alone is beside what the peers send to."""
     if "FecReceiver" in block.text and "Session" not in block.text:
         return False
-    # The block of a port with FEC loses its first packet, and the hostile frame takes the number of that packet.
-    if "FecPort::new" in block.text:
+    # The blocks of a port with FEC lose their first packet, and the hostile frame takes the number of that packet.
+    if "FecPort::new" in block.text or "cpay_fec_port_new" in block.text:
         return False
     return block.language in ("rust", "c") and re.search(r"\b(receive|receive_any|cpay_\w+_receive)\(", block.text)
 
