@@ -1441,7 +1441,7 @@ CPAY_CHECKED cpay_status cpay_path_state(cpay_path *path, cpay_path_state_info *
 typedef struct {
     uint64_t estimate;     /**< estimate of the rate that the path carries, in bits per second */
     uint64_t carries;      /**< what is left of it for first transmissions, in bits per second */
-    uint64_t standing;     /**< how long packets stand in the queue of the path, in microseconds */
+    uint64_t standing;     /**< how long packets wait in the queue of the path, in microseconds */
     uint64_t usual_losses; /**< share of packets that are lost usually, in thousandths */
     uint64_t trial_rate;   /**< rate that the trial under way goes to, in bits per second; 0 without one */
     bool has_trial;        /**< a trial of a higher rate is under way */

@@ -1,7 +1,7 @@
 //! The receiving side of a call: all streams of a port, by the session description of the sender. The session requests missing
 //! packets and keyframes, and reports losses each second and arrivals each 100 ms; this program sends its packets, and prints a line for
-//! each event, that of a unit with the time in milliseconds. If the description has `red` and `ulpfec` of video, a port with FEC stands in front of the session.
-//! `tools/chromium/chromium_peer.py` runs it against Chromium:
+//! each event, that of a unit with the time in milliseconds. If the description has `red` and `ulpfec` of video, a port with FEC is in
+//! front of the session. `tools/chromium/chromium_peer.py` runs it against Chromium:
 //!
 //! ```sh
 //! cargo run --example port_peer OFFER ADDRESS [INTERVAL] [GRAIN]

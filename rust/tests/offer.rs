@@ -65,7 +65,7 @@ impl World {
         }
     }
 
-    /// Runs from one second to another with this link. Returns the rate that the publisher was told last.
+    /// Runs from one second to another with this link. Returns the latest rate that was offered to the publisher.
     fn run(&mut self, from: u64, to: u64, link: u64) -> u64 {
         self.waits.clear();
         for now in (from * 1_000..to * 1_000).map(|it| it * 1_000) {
@@ -127,7 +127,7 @@ fn no_rate_is_above_what_is_wanted() {
     let mut world = World::new(800_000, 4_000_000);
     assert_eq!(world.run(0, 30, 3_000_000), 800_000);
     assert!(world.publisher.told.iter().all(|it| it.1 <= 800_000));
-    // Nobody wants more than the small size: that is told at once.
+    // Nobody wants more than the small size: that rate is offered at once.
     world.offer.set_wants(200_000);
     let now = 30_000_000;
     assert_eq!(world.offer.take_due(Ticks(now), 2 * DELAY), Some(200_000));
@@ -137,7 +137,7 @@ fn no_rate_is_above_what_is_wanted() {
     assert!(world.run(40, 70, 3_000_000) >= 800_000);
 }
 
-/// A publisher that sends little is told no less, and its pause changes nothing.
+/// A publisher that sends little gets no lower offer, and its pause changes nothing.
 #[test]
 fn a_publisher_that_sends_little() {
     let mut world = World::new(2_500_000, 4_000_000);

@@ -81,7 +81,7 @@ fn due<T>(all: &mut Vec<(u64, T)>, now: u64) -> Vec<T> {
     due.into_iter().map(|(_, it)| it).collect()
 }
 
-/// What came of a call.
+/// The result of a call.
 #[derive(Debug, Default)]
 struct Seen {
     units: usize,

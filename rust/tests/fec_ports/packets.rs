@@ -61,7 +61,7 @@ impl Packet {
         out
     }
 
-    /// The words of the header extension. `late`: what becomes of an element that is filled in late.
+    /// The words of the header extension. `late`: what an element that is filled in late becomes.
     fn words(&self, late: impl Fn(u8, &[u8]) -> Vec<u8>) -> Vec<u8> {
         let mut words = Vec::new();
         for (id, value) in &self.elements {

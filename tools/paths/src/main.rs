@@ -1,7 +1,7 @@
 //! Viewers behind simulated links, each with a `ViewerPath`; beside it a plain rule on losses (25 kbit/s more each second, to 70 percent
 //! after a loss of more than 2 percent in half a second).
 //!
-//!   paths [SEEDS]       prints a table, with so many runs of each link; 10 by default
+//!   paths [SEEDS]       prints a table, with this number of runs of each link; 10 by default
 //!   paths --check       runs each link of the table three times, and fails where a figure is beyond what the table is to show
 //!   paths -v LINK [SEED]   shows each second of a run
 //!
@@ -9,7 +9,7 @@
 //! a large one (300, 500, 850, 900). Frames at 7.5, 15 and 30 a second, their sizes 20 percent up or down; keyframes of 3,000 and 10,000
 //! bytes, 60 ms after they are wanted. 20 ms each way, a queue of 300 ms and feedback each 100 ms, if a link has no others. The viewer needs frames whole, in the order of their references; it requests a lost
 //! packet once in a round trip, and a keyframe after a second without a frame. A freeze is 250 ms without a new frame, after the first
-//! 5 s. The best choice is the highest that fits the link, or the viewer's share of it, with a tenth to spare; what is lost is sent again,
+//! 5 s. The best choice is the highest that fits the link, or the viewer's share of it, with a tenth to spare; what is lost is retransmitted,
 //! and the keyframe of the large size takes 200 ms at most.
 
 mod control;

@@ -4,12 +4,12 @@
 //!
 //! KIND is what is counted. Packets have 1,200 bytes, those of groups of 48 have 1,500.
 //!
-//! - `media`: a packet of media while none is lost. `whole`: FEC over so many packets, none of which is lost.
-//! - `rebuild`: FEC over so many packets, one of which is lost and is rebuilt. `beside`: the same while 64 packets of FEC protect the same
+//! - `media`: a packet of media while none is lost. `whole`: FEC over PACKETS packets, none of which is lost.
+//! - `rebuild`: FEC over PACKETS packets, one of which is lost and is rebuilt. `beside`: the same while 64 packets of FEC protect the same
 //!   packets and miss two each.
 //! - `marks`: a packet of media that 64 packets of FEC with 48 bits protect, each of which misses two.
 //! - `window`: the first packet of another window, after 512 packets of media.
-//! - `push`: a packet of a frame of so many is sent in RED. `finish`: the FEC of a frame of so many packets, one packet for three.
+//! - `push`: a packet of a frame of PACKETS is sent in RED. `finish`: the FEC of such a frame, one packet for three.
 //!
 //! The difference of two runs under callgrind, divided by the difference of their counts, is what a datagram takes.
 
